@@ -1,7 +1,7 @@
-use Rattle.std.proofs.Common.{◌≡◌, ℕ, zero, suc, ◌+◌, ◌-◌, ◌<◌, ◌≤◌, Bool, true, false, cond, List, [], ◌∷◌, ◌++◌, length, take, drop, get_or, refl, sym, ap, ◌∙◌, arith, add-one, eqb, Option, Some, None, Bor}
+use Rattle.std.proofs.Common.{◌≡◌, ℕ, zero, suc, ◌<◌, Bool, true, false, cond, List, [], ◌∷◌, length, take, drop, get_or, refl, arith, eqb, Option, Some, None, Bor}
 use Rattle.std.specs.Prelude.{IsTrue, is_some, not, option_copied}
 use Rattle.line_text.specs.Cut.{words_left}
-use Rattle.std.specs.List.{slice_split, onto_first, join_with_byte}
+use Rattle.std.specs.List.{slice_split, onto_first}
 
 -- the first part ends at the first such byte
 pub cut_here : (c : ℕ) (bytes : List ℕ) (i : ℕ) → i < length bytes → ((k : ℕ) → k < i → eqb (get_or bytes k 0) c ≡ false) → eqb (get_or bytes i 0) c ≡ true

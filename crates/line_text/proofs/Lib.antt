@@ -6,3 +6,4 @@ pub mod GrammarLemmas
 pub mod WordLaws
 pub mod HexLaws
 pub mod CutLaws
+pub mod CallLaws
