@@ -112,7 +112,8 @@ impl Scenario {
 
     /// The form.
     pub fn form(&self) -> Form
-        ensures { result ≡ self.now.form }
+        ensures value { result ≡ self.now.form }
+        ensures valid { IsValidForm result }
     {
         self.form
     }

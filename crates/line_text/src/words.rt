@@ -1,6 +1,7 @@
 //! The words of a line, taken from left to right.
 
-ghost use Rattle.std.specs.Prelude.{◌≡◌, ◌∷◌, [], ◌<◌, ◌≤◌, ◌≢◌, ◌^◌, List, ℕ, length, MatchOption, MatchResult, IfOk, OnOk, Ok, Err, IsTrue, ◌↔◌};
+ghost use Rattle.std.specs.Prelude.{◌≡◌, ◌∷◌, [], ◌<◌, ◌≤◌, ◌≢◌, ◌^◌, List, ℕ, length, MatchOption, MatchResult, IfOk, OnOk, Ok, Err, IsTrue, ◌↔◌, slice_get, option_copied};
+ghost use Rattle.std.specs.Str.{bytes_eq};
 ghost use Rattle.line_text.specs.Cut.{words_of};
 ghost use Rattle.line_text.specs.Words.{fixed, choice, number, in_order, reference, hex};
 ghost use Rattle.line_text.specs.Calls.{limit};
@@ -13,6 +14,13 @@ use kern_ids::faults::Why;
 use kern_ids::ids::{Band, ObjId, TaskId, ThreadId};
 use kern_ids::lines::ByteLine;
 use std::marker::Model;
+
+/// Whether the word is this one.
+pub fn is_word(word: &[u8], expected: &[u8]) -> bool
+    ensures { result ≡ bytes_eq word.now expected.now }
+{
+    word == expected
+}
 
 /// The words of a line that are left. Two spaces in a row, or one at an end, make an empty word.
 #[derive(Drop)]
@@ -51,6 +59,17 @@ impl<'a> Words<'a> {
                 self.rest = None;
                 Some(line)
             }
+        }
+    }
+
+    /// The next word, which is left.
+    pub fn peek(&self) -> Option<&'a [u8]>
+        ensures { option_copied result ≡ slice_get self.now 0 }
+    {
+        let line = self.rest?;
+        match cut_at(line, b' ') {
+            Some((word, _)) => Some(word),
+            None => Some(line),
         }
     }
 
