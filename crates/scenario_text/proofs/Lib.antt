@@ -2,3 +2,4 @@ pub mod SharerLemmas
 pub mod OrderLemmas
 pub mod LineLemmas
 pub mod FitLemmas
+pub mod PieceLemmas

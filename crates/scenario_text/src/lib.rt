@@ -4,7 +4,11 @@
 
 mod declarations;
 mod fault;
+mod pieces;
 mod place;
 mod scan;
+mod stage;
+mod writing;
 
+pub use pieces::ScenarioPieces;
 pub use scan::read_scenario;
