@@ -1,0 +1,3 @@
+-- The words of the laws of one entry more.
+pub mod Kinds
+pub mod Unchanged
