@@ -1,3 +1,4 @@
 -- The words of the laws of one entry more.
 pub mod Kinds
 pub mod Unchanged
+pub mod Frames
