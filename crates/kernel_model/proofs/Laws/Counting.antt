@@ -5,11 +5,8 @@ use Rattle.std.specs.List.{range_with_len}
 use Rattle.std.proofs.lemmas.List.Sums.{sum_by-cons, sum_by-append}
 use Rattle.std.proofs.lemmas.List.Concat.{flat_map-cons}
 use Rattle.std.proofs.lemmas.Bool.Decides.{eqb_tells, nat_tests}
+use Rattle.kernel_model.specs.Laws.Frames.{bit}
 use Rattle.kernel_model.proofs.Laws.Agree.{count_by-cons, count_by-agree}
-
--- 1 where the test holds
-abbrev pub bit : Bool → ℕ
-bit b = cond b 1 0
 
 both : (b : Bool) → (b ≡ true) ⊎ (b ≡ false)
 both true = inl refl

@@ -17,9 +17,9 @@ use Rattle.kernel_model.specs.Pages.{place, placed, same_page, pages_of, pages_o
 use Rattle.kernel_model.specs.Counted.{counts, count_of, owned_by, is_nonvolatile_state}
 use Rattle.kernel_model.specs.Groups.{is_volatile_state}
 use Rattle.kernel_model.specs.Pages.{is_stored}
-use Rattle.kernel_model.specs.Laws.Frames.{is_page, pages_at, has_share, share_of, is_in}
+use Rattle.kernel_model.specs.Laws.Frames.{is_page, pages_at, has_share, share_of, is_in, bit}
 use Rattle.kernel_model.proofs.Laws.Agree.{count_by-agree}
-use Rattle.kernel_model.proofs.Laws.Counting.{bit, count_by-once, count_by-apart, count_by-flat_map, count_by-map, sum_by-agree, sum_by-once, sum_by-none, count_by-none, count_by-range, count_by-and}
+use Rattle.kernel_model.proofs.Laws.Counting.{count_by-once, count_by-apart, count_by-flat_map, count_by-map, sum_by-agree, sum_by-once, sum_by-none, count_by-none, count_by-range, count_by-and}
 
 -- a test of a page is the test of two numbers
 nat_is : (a b : ℕ) → nat_eq a b ≡ true → a ≡ b

@@ -1,5 +1,5 @@
 -- The pages of one object, and what an object adds to a task's pages.
-use Rattle.std.specs.Prelude.{ℕ, List, Bool, false, ◌&&◌, ◌||◌, if◌then◌else◌, nat_eq, nat_lt, length, count_by}
+use Rattle.std.specs.Prelude.{ℕ, List, Bool, false, ◌&&◌, ◌||◌, if◌then◌else◌, nat_eq, nat_lt, length, count_by, cond}
 use Rattle.std.specs.Option.{option_map_or}
 use Rattle.std.specs.List.{range_with_len}
 use Rattle.kern_ids.specs.declared.entries.Entry.{Entry}
@@ -10,6 +10,10 @@ use Rattle.kernel_model.specs.System.{System}
 use Rattle.kernel_model.specs.Mapping.{owner}
 use Rattle.kernel_model.specs.State.{state}
 use Rattle.kernel_model.specs.Pages.{place, pages_in, is_active, is_inactive}
+
+-- 1 where the test holds
+abbrev pub bit : Bool → ℕ
+bit b = cond b 1 0
 
 -- the page is one of a declared object
 abbrev pub is_page : System → PageId → Bool
