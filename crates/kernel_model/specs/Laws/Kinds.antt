@@ -91,3 +91,25 @@ band_entry who t band = record { who = who; call = SetBand t band; reply = Bande
 
 abbrev pub limits_entry : ℕ → ℕ → Limit → Limit → Entry
 limits_entry who t a i = record { who = who; call = SetLimits t a i; reply = Limited }
+
+abbrev pub is_scan_call : Call → Bool
+is_scan_call Scan = true
+is_scan_call _ = false
+
+abbrev pub is_jetsam_call : Call → Bool
+is_jetsam_call Jetsam = true
+is_jetsam_call _ = false
+
+abbrev pub is_purging_call : Call → Bool
+is_purging_call PurgeOne = true
+is_purging_call Forced = true
+is_purging_call Scan = true
+is_purging_call _ = false
+
+-- a reply that tells of a change comes from a call of its kind
+abbrev pub tells : Reply → Call → Bool
+tells (Purged o) call = is_purging_call call
+tells (Moved move p) call = is_scan_call call
+tells (Aged ts) call = is_tick_call call
+tells (Killed t cause) call = is_jetsam_call call
+tells _ call = true

@@ -1,0 +1,81 @@
+-- What the answer to a call can be, and so what a legal history's entries can be.
+use Rattle.std.proofs.Common.{◌≡◌, ℕ, List, [], ◌∷◌, Option, Some, None, refl, sym, ap, ◌∙◌, Bool, true, false, not, ◌&&◌, ◌||◌, if◌then◌else◌, inl, inr, ◌⊎◌, nat_le, nat_lt, subst}
+use Rattle.std.specs.Option.{option_map_or, unwrap_or}
+use Rattle.std.specs.Prelude.{IsTrue}
+use Rattle.std.proofs.lemmas.Bool.{false≢true}
+use Rattle.kern_ids.specs.declared.entries.Entry.{Entry}
+use Rattle.kern_ids.specs.declared.ids.PageId.{PageId}
+use Rattle.kern_ids.specs.declared.calls.Call.{Call}
+use Rattle.kern_ids.specs.declared.calls.Call.TheVariants.{Scan, Jetsam, PurgeOne, Forced, Tick, SetBand, SetLimits, Map, Unmap, Attach, Write, Read, SetState, GetState, Active, Ledger, Exit, Info, Purgeables}
+use Rattle.kern_ids.specs.declared.replies.Refusal.{Refusal}
+use Rattle.kern_ids.specs.declared.replies.Cause.{Cause}
+use Rattle.kern_ids.specs.declared.replies.Reply.{Reply}
+use Rattle.kern_ids.specs.declared.replies.Reply.TheVariants.{Purged, Moved, Aged, Killed, Refused, Nothing, Idle, Enough, Quiet, NoVictim}
+use Rattle.kern_ids.specs.declared.replies.Move.TheVariants.{Deactivated}
+use Rattle.kernel_model.specs.System.{System}
+use Rattle.kernel_model.specs.Answers.{answer, accepted_answer, refusal, causes}
+use Rattle.kernel_model.specs.Bands.{is_tick_call}
+use Rattle.kernel_model.specs.Choice.{pick, forced}
+use Rattle.kernel_model.specs.Events.{task_of, is_reply, purged_by, killed_by}
+use Rattle.kernel_model.specs.Histories.{fits, IsLegal}
+use Rattle.kernel_model.specs.Lists.{first_some}
+use Rattle.kernel_model.specs.Pages.{move_of, free, inactive_pages, is_deactivation}
+use Rattle.kernel_model.specs.Scan.{scan, scan_rest, scan_inactive, first_active, first_inactive}
+use Rattle.kernel_model.specs.Pages.{touched_since, written, stored_pages}
+use Rattle.kernel_model.specs.Victims.{victim, killed_for, least_task, over_fatal, over_soft, is_eligible}
+use Rattle.kernel_model.specs.Laws.Kinds.{tells}
+
+tell_if : (b : Bool) (x y : Reply) (call : Call) → tells x call ≡ true → tells y call ≡ true → tells (if b then x else y) call ≡ true
+tell_if true x y call h k = h
+tell_if false x y call h k = k
+
+tell_some : {A : Type 0} (f : A → Reply) (o : Option A) (r : Reply) (call : Call) → ((x : A) → tells (f x) call ≡ true) → tells r call ≡ true → tells (option_map_or f o r) call ≡ true
+tell_some f (Some x) r call h k = h x
+tell_some f None r call h k = k
+
+-- the scan moves, purges or does nothing; jetsam kills or doesn't
+moves_tells : (boot : System) (past : List Entry) (p : PageId) (a b c : Bool) → tells (if a then Moved Rattle.kern_ids.specs.declared.replies.Move.TheVariants.Reactivated p else if b then Moved Rattle.kern_ids.specs.declared.replies.Move.TheVariants.Freed p else if c then Moved Rattle.kern_ids.specs.declared.replies.Move.TheVariants.Compressed p else Moved Rattle.kern_ids.specs.declared.replies.Move.TheVariants.Requeued p) Scan ≡ true
+moves_tells boot past p true b c = refl
+moves_tells boot past p false true c = refl
+moves_tells boot past p false false true = refl
+moves_tells boot past p false false false = refl
+
+inactive_tells : (boot : System) (past : List Entry) (o : Option PageId) → tells (option_map_or (scan_inactive boot past) o Idle) Scan ≡ true
+inactive_tells boot past (Some p) = moves_tells boot past p (touched_since boot past p) (not (written past p)) (nat_lt (stored_pages boot past) boot.params.store)
+inactive_tells boot past None = refl
+
+rest_tells : (boot : System) (past : List Entry) (o : Option ℕ) → tells (elim o [ Some o ↦ Purged o | None ↦ option_map_or (scan_inactive boot past) (first_inactive boot past) Idle ]) Scan ≡ true
+rest_tells boot past (Some o) = refl
+rest_tells boot past None = inactive_tells boot past (first_inactive boot past)
+
+scan_tells : (boot : System) (past : List Entry) → tells (scan boot past) Scan ≡ true
+unfolding scan
+scan_tells boot past =
+    tell_if (nat_le boot.params.target (free boot past)) Enough (if nat_lt (inactive_pages boot past) boot.params.inactive then option_map_or (Moved Deactivated) (first_active boot past) (scan_rest boot past) else scan_rest boot past) Scan refl
+    (tell_if (nat_lt (inactive_pages boot past) boot.params.inactive) (option_map_or (Moved Deactivated) (first_active boot past) (scan_rest boot past)) (scan_rest boot past) Scan
+    (tell_some (Moved Deactivated) (first_active boot past) (scan_rest boot past) Scan (λ p. refl) (rest_tells boot past (pick boot past)))
+    (rest_tells boot past (pick boot past)))
+
+victim_tells : (boot : System) (past : List Entry) → tells (victim boot past) Jetsam ≡ true
+unfolding victim
+victim_tells boot past =
+    let kills = λ (cause : Cause) (o : Option ℕ) (r : Reply) (h : tells r Jetsam ≡ true). tell_some (killed_for cause) o r Jetsam (λ t. refl) h in
+    kills Rattle.kern_ids.specs.declared.replies.Cause.TheVariants.Limit (least_task boot past (over_fatal boot past)) _
+    (tell_if (nat_le boot.params.critical (free boot past)) Quiet _ Jetsam refl
+    (kills Rattle.kern_ids.specs.declared.replies.Cause.TheVariants.HighWater (least_task boot past (over_soft boot past)) _
+    (kills Rattle.kern_ids.specs.declared.replies.Cause.TheVariants.Pressure (least_task boot past (is_eligible boot past)) NoVictim refl)))
+
+accepted_tells : (boot : System) (past : List Entry) (t : ℕ) (call : Call) → tells (accepted_answer boot past t call) call ≡ true
+accepted_tells boot past t PurgeOne = tell_some Purged (pick boot past) Nothing PurgeOne (λ o. refl) refl
+accepted_tells boot past t Forced = tell_some Purged (forced boot past) Nothing Forced (λ o. refl) refl
+accepted_tells boot past t Scan = scan_tells boot past
+accepted_tells boot past t Jetsam = victim_tells boot past
+accepted_tells boot past t _ = refl
+
+-- an answer that tells of a change is that to a call of its kind
+pub answer-tells : (boot : System) (past : List Entry) (who : ℕ) (call : Call) → tells (answer boot past who call) call ≡ true
+unfolding answer
+answer-tells boot past who call = tell_some Refused (refusal boot past who call) (accepted_answer boot past (unwrap_or (task_of boot who) 0) call) call (λ why. refl) (accepted_tells boot past (unwrap_or (task_of boot who) 0) call)
+
+pub legal-tells : (boot : System) (e : Entry) (before : List Entry) → IsLegal boot (e ∷ before) → tells e.reply e.call ≡ true
+legal-tells boot e before h = rw h.1 (answer-tells boot before e.who e.call)
