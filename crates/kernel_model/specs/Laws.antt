@@ -2,3 +2,4 @@
 pub mod Kinds
 pub mod Unchanged
 pub mod Frames
+pub mod Literal
