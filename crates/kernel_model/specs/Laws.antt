@@ -3,3 +3,4 @@ pub mod Kinds
 pub mod Unchanged
 pub mod Frames
 pub mod Literal
+pub mod Order

@@ -1,0 +1,173 @@
+-- Lists that keep exactly the elements with a test in rising order: their first is the least, and what an entry makes of them.
+use Rattle.std.proofs.Common.{◌≡◌, ℕ, suc, ◌+◌, ◌<◌, List, [], ◌∷◌, ◌++◌, Option, Some, None, refl, sym, ap, ◌∙◌, subst, Bool, true, false, not, cond, ◌&&◌, ◌||◌, find, filter, if◌then◌else◌, inl, inr, ◌⊎◌}
+use Rattle.std.specs.Prelude.{drop, slice_get}
+use Rattle.std.specs.List.{list_any}
+use Rattle.std.proofs.lemmas.Bool.{false≢true, true≢false}
+use Rattle.kernel_model.specs.Lists.{least, put, in_order}
+use Rattle.kernel_model.specs.Laws.Order.{Has, Rising, Keeps}
+
+cases_bool : (b : Bool) → (b ≡ true) ⊎ (b ≡ false)
+cases_bool true = inl refl
+cases_bool false = inr refl
+
+both_true : (a b : Bool) → (a && b) ≡ true → (a ≡ true) × (b ≡ true)
+both_true true b h = (refl, h)
+both_true false b h = absurd (false≢true h)
+
+or-true : (b : Bool) → (b || true) ≡ true
+or-true true = refl
+or-true false = refl
+
+-- membership
+pub has-append_left : {A : Type 0} (xs ys : List A) (x : A) → Has xs x → Has (xs ++ ys) x
+has-append_left [] ys x h = absurd h
+has-append_left (y ∷ xs) ys x (inl e) = inl e
+has-append_left (y ∷ xs) ys x (inr h) = inr (has-append_left xs ys x h)
+
+pub has-append_right : {A : Type 0} (xs ys : List A) (x : A) → Has ys x → Has (xs ++ ys) x
+has-append_right [] ys x h = h
+has-append_right (y ∷ xs) ys x h = inr (has-append_right xs ys x h)
+
+pub has-append_cases : {A : Type 0} (xs ys : List A) (x : A) → Has (xs ++ ys) x → Has xs x ⊎ Has ys x
+has-append_cases [] ys x h = inr h
+has-append_cases (y ∷ xs) ys x (inl e) = inl (inl e)
+has-append_cases (y ∷ xs) ys x (inr h) = elim (has-append_cases xs ys x h) [ inl l ↦ inl (inr l) | inr r ↦ inr r ]
+
+pub has-filter : {A : Type 0} (p : A → Bool) (xs : List A) (x : A) → Has xs x → p x ≡ true → Has (filter p xs) x
+has-filter p [] x h t = absurd h
+has-filter p (y ∷ xs) x (inl e) t = let t' : p y ≡ true = ap p e ∙ t in rw t' (inl e)
+has-filter p (y ∷ xs) x (inr h) t = elim (cases_bool (p y)) [
+  | inl holds ↦ rw holds (inr (has-filter p xs x h t))
+  | inr fails ↦ rw fails (has-filter p xs x h t)
+]
+
+pub filter-has : {A : Type 0} (p : A → Bool) (xs : List A) (x : A) → Has (filter p xs) x → Has xs x × (p x ≡ true)
+filter-has p [] x h = absurd h
+filter-has p (y ∷ xs) x h = elim (cases_bool (p y)) [
+  | inl holds ↦ elim (rw holds at h) [
+    | inl e ↦ (inl e, ap p (sym e) ∙ holds)
+    | inr r ↦ (let q = filter-has p xs x r in (inr q.0, q.1))
+  ]
+  | inr fails ↦ (let q = filter-has p xs x (rw fails at h) in (inr q.0, q.1))
+]
+
+pub any-has : {A : Type 0} (p : A → Bool) (xs : List A) (x : A) → Has xs x → p x ≡ true → list_any p xs ≡ true
+any-has p [] x h t = absurd h
+any-has p (y ∷ xs) x (inl e) t = let t' : p y ≡ true = ap p e ∙ t in rw t' refl
+any-has p (y ∷ xs) x (inr h) t = rw (any-has p xs x h t) (or-true (p y))
+
+pub any-none : {A : Type 0} (p : A → Bool) (xs : List A) → ((x : A) → Has xs x → p x ≡ false) → list_any p xs ≡ false
+any-none p [] h = refl
+any-none p (y ∷ xs) h = rw (h y (inl refl), any-none p xs (λ x m. h x (inr m))) refl
+
+other_has : {A : Type 0} (p : A → Bool) (y : A) (xs : List A) (x : A) → Has (y ∷ xs) x → p x ≡ true → p y ≡ false → Has xs x
+other_has p y xs x (inl e) t f = absurd (true≢false (sym t ∙ ap p (sym e) ∙ f))
+other_has p y xs x (inr h) t f = h
+
+none_some : {A : Type 0} {x : A} → None ≡ Some x → ⊥
+none_some h = cc
+
+some_same : {A : Type 0} {x y : A} → Some x ≡ Some y → x ≡ y
+some_same h = cc
+
+-- the one element that passes is found
+pub find-only : {A : Type 0} (p : A → Bool) (xs : List A) (x : A) → Has xs x → p x ≡ true → ((y : A) → Has xs y → p y ≡ true → y ≡ x) → find p xs ≡ Some x
+find-only p [] x h t only = absurd h
+find-only p (y ∷ xs) x h t only = elim (cases_bool (p y)) [
+  | inl holds ↦ rw holds (ap Some (only y (inl refl) holds))
+  | inr fails ↦ rw fails (find-only p xs x (other_has p y xs x h t fails) t (λ z m. only z (inr m)))
+]
+
+pub find-none : {A : Type 0} (p : A → Bool) (xs : List A) → ((x : A) → Has xs x → p x ≡ false) → find p xs ≡ None
+find-none p [] h = refl
+find-none p (y ∷ xs) h = rw (h y (inl refl), find-none p xs (λ x m. h x (inr m))) refl
+
+-- what is found is there and passes
+pub find-has : {A : Type 0} (p : A → Bool) (xs : List A) (x : A) → find p xs ≡ Some x → Has xs x × (p x ≡ true)
+find-has p [] x h = absurd (none_some h)
+find-has p (y ∷ xs) x h = elim (cases_bool (p y)) [
+  | inl holds ↦ (let e : y ≡ x = some_same (rw holds at h) in (inl e, ap p (sym e) ∙ holds))
+  | inr fails ↦ (let q = find-has p xs x (rw fails at h) in (inr q.0, q.1))
+]
+
+-- the least of those that pass is the first of the list that keeps them
+pub least-keeps : {A : Type 0} (whole : List A) (test : A → Bool) (less : A → A → Bool) (xs : List A) → ((x y : A) → less x y ≡ true → less y x ≡ false) → Keeps whole test less xs → least less (filter test whole) ≡ slice_get xs 0
+least-keeps {A} whole test less [] asym k = find-none _ (filter test whole) (λ x m. absurd (let q = filter-has test whole x m in k.all x q.0 q.1))
+least-keeps {A} whole test less (x ∷ xs) asym k =
+    let inside : (y : A) → Has (filter test whole) y → Has (x ∷ xs) y = λ y m. (let q = filter-has test whole y m in k.all y q.0 q.1) in
+    let itself : less x x ≡ false = elim (cases_bool (less x x)) [ inl t ↦ asym x x t | inr f ↦ f ] in
+    let none_less : (y : A) → Has (filter test whole) y → less y x ≡ false = λ y m. elim (inside y m) [ inl e ↦ ap (λ z. less z x) (sym e) ∙ itself | inr h ↦ asym x y (k.rising.0 y h) ] in
+    let there : Has (filter test whole) x = has-filter test whole x (k.within x (inl refl)) (k.passes x (inl refl)) in
+    find-only (λ z. not (list_any (λ y. less y z) (filter test whole))) (filter test whole) x there (ap not (any-none (λ y. less y x) (filter test whole) none_less))
+    (λ z m t. elim (inside z m) [
+      | inl e ↦ sym e
+      | inr h ↦ absurd (true≢false (sym t ∙ ap not (any-has (λ y. less y z) (filter test whole) x there (k.rising.0 z h))))
+    ])
+
+-- rising lists
+pub rising-agree : {A : Type 0} (less later : A → A → Bool) (xs : List A) → ((x y : A) → Has xs x → Has xs y → later x y ≡ less x y) → Rising less xs → Rising later xs
+rising-agree less later [] h r = tt
+rising-agree less later (x ∷ xs) h r = (λ y m. h x y (inl refl) (inr m) ∙ r.0 y m, rising-agree less later xs (λ a b ha hb. h a b (inr ha) (inr hb)) r.1)
+
+pub rising-filter : {A : Type 0} (less : A → A → Bool) (p : A → Bool) (xs : List A) → Rising less xs → Rising less (filter p xs)
+rising-filter less p [] r = tt
+rising-filter less p (x ∷ xs) r = elim (cases_bool (p x)) [
+  | inl holds ↦ rw holds (λ y m. r.0 y (filter-has p xs y m).0, rising-filter less p xs r.1)
+  | inr fails ↦ rw fails (rising-filter less p xs r.1)
+]
+
+pub rising-append : {A : Type 0} (less : A → A → Bool) (xs ys : List A) → Rising less xs → Rising less ys → ((x y : A) → Has xs x → Has ys y → less x y ≡ true) → Rising less (xs ++ ys)
+rising-append less [] ys r s h = s
+rising-append less (x ∷ xs) ys r s h = (λ y m. elim (has-append_cases xs ys y m) [ inl l ↦ r.0 y l | inr n ↦ h x y (inl refl) n ], rising-append less xs ys r.1 s (λ a b ha hb. h a b (inr ha) hb))
+
+-- an entry that changes neither the test nor the order of those that pass
+pub keeps-same : {A : Type 0} (whole : List A) (test new : A → Bool) (less later : A → A → Bool) (xs : List A) → ((x : A) → new x ≡ test x) → ((x y : A) → test x ≡ true → test y ≡ true → later x y ≡ less x y) → Keeps whole test less xs → Keeps whole new later xs
+keeps-same whole test new less later xs t l k = record {
+  rising = rising-agree less later xs (λ x y hx hy. l x y (k.passes x hx) (k.passes y hy)) k.rising;
+  within = k.within;
+  passes = λ x h. t x ∙ k.passes x h;
+  all = λ x w h. k.all x w (sym (t x) ∙ h);
+}
+
+-- an entry after which only those with another test besides pass
+pub keeps-filter : {A : Type 0} (whole : List A) (test new : A → Bool) (less later : A → A → Bool) (stays : A → Bool) (xs : List A) → ((x : A) → new x ≡ (stays x && test x)) → ((x y : A) → new x ≡ true → new y ≡ true → later x y ≡ less x y) → Keeps whole test less xs → Keeps whole new later (filter stays xs)
+keeps-filter {A} whole test new less later stays xs t l k =
+    let now : (x : A) → Has (filter stays xs) x → new x ≡ true = λ x h. (let q = filter-has stays xs x h in t x ∙ rw (q.1, k.passes x q.0) refl) in
+    record {
+      rising = rising-agree less later (filter stays xs) (λ x y hx hy. l x y (now x hx) (now y hy)) (rising-filter less stays xs k.rising);
+      within = λ x h. k.within x (filter-has stays xs x h).0;
+      passes = now;
+      all = λ x w h. (let b = both_true (stays x) (test x) (sym (t x) ∙ h) in has-filter stays xs x (k.all x w b.1) b.0);
+    }
+
+-- an entry that brings those of ys behind all others, in rising order
+pub keeps-append : {A : Type 0} (whole : List A) (test new : A → Bool) (less later : A → A → Bool) (xs ys : List A) → ((x : A) → test x ≡ true → new x ≡ true) → ((x : A) → Has whole x → new x ≡ true → (test x ≡ true) ⊎ Has ys x) → ((y : A) → Has ys y → Has whole y × (new y ≡ true)) → ((x y : A) → test x ≡ true → test y ≡ true → later x y ≡ less x y) → ((x y : A) → test x ≡ true → Has ys y → later x y ≡ true) → Rising later ys → Keeps whole test less xs → Keeps whole new later (xs ++ ys)
+keeps-append whole test new less later xs ys stay come are agree behind r k = record {
+  rising = rising-append later xs ys (rising-agree less later xs (λ x y hx hy. agree x y (k.passes x hx) (k.passes y hy)) k.rising) r (λ x y hx hy. behind x y (k.passes x hx) hy);
+  within = λ x h. elim (has-append_cases xs ys x h) [ inl l ↦ k.within x l | inr m ↦ (are x m).0 ];
+  passes = λ x h. elim (has-append_cases xs ys x h) [ inl l ↦ stay x (k.passes x l) | inr m ↦ (are x m).1 ];
+  all = λ x w h. elim (come x w h) [ inl t ↦ has-append_left xs ys x (k.all x w t) | inr m ↦ has-append_right xs ys x m ];
+}
+
+-- an entry that brings p before all others
+pub keeps-front : {A : Type 0} (whole : List A) (test new : A → Bool) (less later : A → A → Bool) (xs : List A) (p : A) → ((x : A) → test x ≡ true → new x ≡ true) → ((x : A) → Has whole x → new x ≡ true → (test x ≡ true) ⊎ (p ≡ x)) → Has whole p → new p ≡ true → ((x y : A) → test x ≡ true → test y ≡ true → later x y ≡ less x y) → ((x : A) → test x ≡ true → later p x ≡ true) → Keeps whole test less xs → Keeps whole new later (p ∷ xs)
+keeps-front whole test new less later xs p stay come w n agree before k = record {
+  rising = (λ y h. before y (k.passes y h), rising-agree less later xs (λ x y hx hy. agree x y (k.passes x hx) (k.passes y hy)) k.rising);
+  within = λ x h. elim h [ inl e ↦ subst (Has whole) e w | inr m ↦ k.within x m ];
+  passes = λ x h. elim h [ inl e ↦ ap new (sym e) ∙ n | inr m ↦ stay x (k.passes x m) ];
+  all = λ x v h. elim (come x v h) [ inl t ↦ inr (k.all x v t) | inr e ↦ inl e ];
+}
+
+-- an entry that takes the first away
+pub keeps-drop : {A : Type 0} (whole : List A) (test new : A → Bool) (less later : A → A → Bool) (p : A) (xs : List A) → ((x : A) → less x x ≡ false) → ((x : A) → new x ≡ true → test x ≡ true) → new p ≡ false → ((x : A) → test x ≡ true → (new x ≡ true) ⊎ (p ≡ x)) → ((x y : A) → new x ≡ true → new y ≡ true → later x y ≡ less x y) → Keeps whole test less (p ∷ xs) → Keeps whole new later xs
+keeps-drop {A} whole test new less later p xs irr was gone stay agree k =
+    let now : (x : A) → Has xs x → new x ≡ true = λ x h. elim (stay x (k.passes x (inr h))) [
+      | inl n ↦ n
+      | inr e ↦ absurd (true≢false (sym (k.rising.0 x h) ∙ ap (less p) (sym e) ∙ irr p))
+    ] in
+    record {
+      rising = rising-agree less later xs (λ x y hx hy. agree x y (now x hx) (now y hy)) k.rising.1;
+      within = λ x h. k.within x (inr h);
+      passes = now;
+      all = λ x w h. elim (k.all x w (was x h)) [ inl e ↦ absurd (true≢false (sym h ∙ ap new (sym e) ∙ gone)) | inr m ↦ m ];
+    }
