@@ -1,10 +1,10 @@
 -- Lists that keep exactly the elements with a test in rising order: their first is the least, and what an entry makes of them.
-use Rattle.std.proofs.Common.{◌≡◌, ℕ, suc, ◌+◌, ◌<◌, List, [], ◌∷◌, ◌++◌, Option, Some, None, refl, sym, ap, ◌∙◌, subst, Bool, true, false, not, cond, ◌&&◌, ◌||◌, find, filter, if◌then◌else◌, inl, inr, ◌⊎◌}
+use Rattle.std.proofs.Common.{◌≡◌, ℕ, suc, ◌+◌, ◌<◌, List, [], ◌∷◌, ◌++◌, Option, Some, None, refl, sym, ap, ap₂, ◌∙◌, subst, Bool, true, false, not, cond, ◌&&◌, ◌||◌, find, filter, if◌then◌else◌, inl, inr, ◌⊎◌}
 use Rattle.std.specs.Prelude.{drop, slice_get}
 use Rattle.std.specs.List.{list_any}
 use Rattle.std.proofs.lemmas.Bool.{false≢true, true≢false}
 use Rattle.kernel_model.specs.Lists.{least, put, in_order}
-use Rattle.kernel_model.specs.Laws.Order.{Has, Rising, Keeps}
+use Rattle.kernel_model.specs.Laws.Order.{Has, Rising, Keeps, Distinct}
 
 cases_bool : (b : Bool) → (b ≡ true) ⊎ (b ≡ false)
 cases_bool true = inl refl
@@ -171,3 +171,84 @@ keeps-drop {A} whole test new less later p xs irr was gone stay agree k =
       passes = now;
       all = λ x w h. elim (k.all x w (was x h)) [ inl e ↦ absurd (true≢false (sym h ∙ ap new (sym e) ∙ gone)) | inr m ↦ m ];
     }
+
+-- two rising lists with the same elements are one
+pub rising-unique : {A : Type 0} (less : A → A → Bool) → ((x y : A) → less x y ≡ true → less y x ≡ false) → (xs ys : List A) → Rising less xs → Rising less ys → ((x : A) → Has xs x → Has ys x) → ((x : A) → Has ys x → Has xs x) → xs ≡ ys
+rising-unique less asym [] [] r s h k = refl
+rising-unique less asym [] (y ∷ ys) r s h k = absurd (k y (inl refl))
+rising-unique less asym (x ∷ xs) [] r s h k = absurd (h x (inl refl))
+rising-unique {A} less asym (x ∷ xs) (y ∷ ys) r s h k =
+    let same : y ≡ x = elim (h x (inl refl)) [
+      | inl e ↦ e
+      | inr later ↦ elim (k y (inl refl)) [
+        | inl e ↦ sym e
+        | inr after ↦ absurd (true≢false (sym (s.0 x later) ∙ asym x y (r.0 y after)))
+      ]
+    ] in
+    let apart : (z : A) → less z z ≡ false = λ z. elim (cases_bool (less z z)) [ inl t ↦ asym z z t | inr f ↦ f ] in
+    let there : (z : A) → Has xs z → Has ys z = λ z m. elim (h z (inr m)) [ inl e ↦ absurd (true≢false (sym (r.0 z m) ∙ ap (less x) (sym e) ∙ ap (less x) same ∙ apart x)) | inr n ↦ n ] in
+    let back : (z : A) → Has ys z → Has xs z = λ z m. elim (k z (inr m)) [ inl e ↦ absurd (true≢false (sym (s.0 z m) ∙ ap (less y) (sym e) ∙ ap (less y) (sym same) ∙ apart y)) | inr n ↦ n ] in
+    ap₂ (λ z zs. z ∷ zs) (sym same) (rising-unique less asym xs ys r.1 s.1 there back)
+
+-- putting a list in order
+pub put-has : {A : Type 0} (less : A → A → Bool) (x : A) (ys : List A) (z : A) → Has (put less x ys) z → (x ≡ z) ⊎ Has ys z
+put-has less x [] z h = h
+put-has less x (y ∷ ys) z h = elim (cases_bool (less x y)) [
+  | inl t ↦ rw t at h
+  | inr f ↦ elim (rw f at h) [
+    | inl e ↦ inr (inl e)
+    | inr m ↦ elim (put-has less x ys z m) [ inl e ↦ inl e | inr n ↦ inr (inr n) ]
+  ]
+]
+
+pub has-put : {A : Type 0} (less : A → A → Bool) (x : A) (ys : List A) (z : A) → (x ≡ z) ⊎ Has ys z → Has (put less x ys) z
+has-put less x [] z h = h
+has-put less x (y ∷ ys) z h = elim (cases_bool (less x y)) [
+  | inl t ↦ rw t h
+  | inr f ↦ rw f (elim h [
+    | inl e ↦ inr (has-put less x ys z (inl e))
+    | inr m ↦ elim m [ inl e ↦ inl e | inr n ↦ inr (has-put less x ys z (inr n)) ]
+  ])
+]
+
+pub in_order-has : {A : Type 0} (less : A → A → Bool) (xs : List A) (z : A) → Has (in_order less xs) z → Has xs z
+in_order-has less [] z h = h
+in_order-has less (x ∷ xs) z h = elim (put-has less x (in_order less xs) z h) [ inl e ↦ inl e | inr m ↦ inr (in_order-has less xs z m) ]
+
+pub has-in_order : {A : Type 0} (less : A → A → Bool) (xs : List A) (z : A) → Has xs z → Has (in_order less xs) z
+has-in_order less [] z h = h
+has-in_order less (x ∷ xs) z (inl e) = has-put less x (in_order less xs) z (inl e)
+has-in_order less (x ∷ xs) z (inr m) = has-put less x (in_order less xs) z (inr (has-in_order less xs z m))
+
+rising-put : {A : Type 0} (less : A → A → Bool) (x : A) (ys : List A) → ((a b c : A) → less a b ≡ true → less b c ≡ true → less a c ≡ true) → ((y : A) → Has ys y → (less x y ≡ true) ⊎ (less y x ≡ true)) → Rising less ys → Rising less (put less x ys)
+rising-put less x [] trans total r = ((λ y m. absurd m), tt)
+rising-put less x (y ∷ ys) trans total r = elim (cases_bool (less x y)) [
+  | inl t ↦ rw t ((λ z m. elim m [ inl e ↦ ap (less x) (sym e) ∙ t | inr n ↦ trans x y z t (r.0 z n) ]), r)
+  | inr f ↦ rw f ((λ z m. elim (put-has less x ys z m) [
+      | inl e ↦ elim (total y (inl refl)) [ inl t ↦ absurd (true≢false (sym t ∙ f)) | inr t ↦ ap (less y) (sym e) ∙ t ]
+      | inr n ↦ r.0 z n
+    ]), rising-put less x ys trans (λ z m. total z (inr m)) r.1)
+]
+
+pub rising-in_order : {A : Type 0} (less : A → A → Bool) (xs : List A) → ((a b c : A) → less a b ≡ true → less b c ≡ true → less a c ≡ true) → ((x y : A) → Has xs x → Has xs y → (x ≡ y → ⊥) → (less x y ≡ true) ⊎ (less y x ≡ true)) → Distinct xs → Rising less (in_order less xs)
+rising-in_order less [] trans total d = tt
+rising-in_order less (x ∷ xs) trans total d =
+    rising-put less x (in_order less xs) trans
+    (λ y m. let n = in_order-has less xs y m in total x y (inl refl) (inr n) (λ e. d.0 (subst (Has xs) (sym e) n)))
+    (rising-in_order less xs trans (λ a b ha hb. total a b (inr ha) (inr hb)) d.1)
+
+pub distinct-filter : {A : Type 0} (p : A → Bool) (xs : List A) → Distinct xs → Distinct (filter p xs)
+distinct-filter p [] d = tt
+distinct-filter p (x ∷ xs) d = elim (cases_bool (p x)) [
+  | inl holds ↦ rw holds ((λ m. d.0 (filter-has p xs x m).0), distinct-filter p xs d.1)
+  | inr fails ↦ rw fails (distinct-filter p xs d.1)
+]
+
+-- those that pass, put in order, are the list that keeps them
+pub in_order-keeps : {A : Type 0} (whole : List A) (test : A → Bool) (less : A → A → Bool) (xs : List A) → ((x y : A) → less x y ≡ true → less y x ≡ false) → ((a b c : A) → less a b ≡ true → less b c ≡ true → less a c ≡ true) → ((x y : A) → Has whole x → Has whole y → (x ≡ y → ⊥) → (less x y ≡ true) ⊎ (less y x ≡ true)) → Distinct whole → Keeps whole test less xs → in_order less (filter test whole) ≡ xs
+in_order-keeps whole test less xs asym trans total d k =
+    rising-unique less asym (in_order less (filter test whole)) xs
+    (rising-in_order less (filter test whole) trans (λ x y hx hy n. total x y (filter-has test whole x hx).0 (filter-has test whole y hy).0 n) (distinct-filter test whole d))
+    k.rising
+    (λ x m. let q = filter-has test whole x (in_order-has less (filter test whole) x m) in k.all x q.0 q.1)
+    (λ x m. has-in_order less (filter test whole) x (has-filter test whole x (k.within x m) (k.passes x m)))

@@ -17,3 +17,8 @@ pub record Keeps {A : Type 0} (whole : List A) (test : A → Bool) (less : A →
   pub within : (x : A) → Has xs x → Has whole x
   pub passes : (x : A) → Has xs x → test x ≡ true
   pub all : (x : A) → Has whole x → test x ≡ true → Has xs x
+
+-- no element stands twice
+abbrev pub Distinct : {A : Type 0} → List A → Type 0
+Distinct [] = Unit {0}
+Distinct (x ∷ xs) = (Has xs x → ⊥) × Distinct xs
