@@ -4,3 +4,4 @@ pub mod Unchanged
 pub mod Frames
 pub mod Literal
 pub mod Order
+pub mod Queues
