@@ -14,6 +14,10 @@ both_true : (a b : Bool) → (a && b) ≡ true → (a ≡ true) × (b ≡ true)
 both_true true b h = (refl, h)
 both_true false b h = absurd (false≢true h)
 
+not_true : (b : Bool) → not b ≡ true → b ≡ false
+not_true false h = refl
+not_true true h = absurd (false≢true h)
+
 or-true : (b : Bool) → (b || true) ≡ true
 or-true true = refl
 or-true false = refl
@@ -252,3 +256,47 @@ in_order-keeps whole test less xs asym trans total d k =
     k.rising
     (λ x m. let q = filter-has test whole x (in_order-has less (filter test whole) x m) in k.all x q.0 q.1)
     (λ x m. has-in_order less (filter test whole) x (has-filter test whole x (k.within x m) (k.passes x m)))
+
+-- an entry that puts some anew, behind all others
+pub keeps-renew : {A : Type 0} (whole : List A) (test new : A → Bool) (less later : A → A → Bool) (moved : A → Bool) (xs ys : List A) → ((x : A) → moved x ≡ false → new x ≡ test x) → ((x : A) → Has whole x → new x ≡ true → moved x ≡ true → Has ys x) → ((y : A) → Has ys y → Has whole y × (new y ≡ true)) → ((x y : A) → moved x ≡ false → moved y ≡ false → test x ≡ true → test y ≡ true → later x y ≡ less x y) → ((x y : A) → moved x ≡ false → test x ≡ true → Has ys y → later x y ≡ true) → Rising later ys → Keeps whole test less xs → Keeps whole new later (filter (λ x. not (moved x)) xs ++ ys)
+keeps-renew {A} whole test new less later moved xs ys same come are agree behind r k =
+    let still = λ (x : A) (h : (not (moved x) && test x) ≡ true). both_true (not (moved x)) (test x) h in
+    let unmoved = λ (x : A) (h : (not (moved x) && test x) ≡ true). not_true (moved x) (still x h).0 in
+    keeps-append whole (λ x. not (moved x) && test x) new less later (filter (λ x. not (moved x)) xs) ys
+    (λ x h. same x (unmoved x h) ∙ (still x h).1)
+    (λ x w h. elim (cases_bool (moved x)) [
+      | inl m ↦ inr (come x w h m)
+      | inr f ↦ inl (rw (f, ← same x f, h) refl)
+    ])
+    are
+    (λ x y hx hy. agree x y (unmoved x hx) (unmoved y hy) (still x hx).1 (still y hy).1)
+    (λ x y hx m. behind x y (unmoved x hx) (still x hx).1 m)
+    r
+    (keeps-filter whole test (λ x. not (moved x) && test x) less less (λ x. not (moved x)) xs (λ x. refl) (λ x y hx hy. refl) k)
+
+-- and one that puts p anew, before all others
+pub keeps-renew_front : {A : Type 0} (whole : List A) (test new : A → Bool) (less later : A → A → Bool) (moved : A → Bool) (xs : List A) (p : A) → ((x : A) → moved x ≡ false → new x ≡ test x) → ((x : A) → moved x ≡ true → p ≡ x) → Has whole p → new p ≡ true → ((x y : A) → moved x ≡ false → moved y ≡ false → test x ≡ true → test y ≡ true → later x y ≡ less x y) → ((x : A) → moved x ≡ false → test x ≡ true → later p x ≡ true) → Keeps whole test less xs → Keeps whole new later (p ∷ filter (λ x. not (moved x)) xs)
+keeps-renew_front {A} whole test new less later moved xs p same only w n agree before k =
+    let still = λ (x : A) (h : (not (moved x) && test x) ≡ true). both_true (not (moved x)) (test x) h in
+    let unmoved = λ (x : A) (h : (not (moved x) && test x) ≡ true). not_true (moved x) (still x h).0 in
+    keeps-front whole (λ x. not (moved x) && test x) new less later (filter (λ x. not (moved x)) xs) p
+    (λ x h. same x (unmoved x h) ∙ (still x h).1)
+    (λ x v h. elim (cases_bool (moved x)) [
+      | inl m ↦ inr (only x m)
+      | inr f ↦ inl (rw (f, ← same x f, h) refl)
+    ])
+    w n
+    (λ x y hx hy. agree x y (unmoved x hx) (unmoved y hy) (still x hx).1 (still y hy).1)
+    (λ x hx. before x (unmoved x hx) (still x hx).1)
+    (keeps-filter whole test (λ x. not (moved x) && test x) less less (λ x. not (moved x)) xs (λ x. refl) (λ x y hx hy. refl) k)
+
+-- the least of those with a further test is the first with it in the list
+find-head : {A : Type 0} (p : A → Bool) (xs : List A) → find p xs ≡ slice_get (filter p xs) 0
+find-head p [] = refl
+find-head p (x ∷ xs) = elim (cases_bool (p x)) [ inl t ↦ rw t refl | inr f ↦ rw f (find-head p xs) ]
+
+pub least-find : {A : Type 0} (whole : List A) (test further : A → Bool) (less : A → A → Bool) (xs : List A) → ((x y : A) → less x y ≡ true → less y x ≡ false) → ((x : A) → further x ≡ true → test x ≡ true) → Keeps whole test less xs → least less (filter further whole) ≡ find further xs
+least-find {A} whole test further less xs asym within k =
+    let t : (x : A) → further x ≡ (further x && test x) = λ x. elim (cases_bool (further x)) [ inl h ↦ rw (h, within x h) refl | inr h ↦ rw h refl ] in
+    least-keeps whole further less (filter further xs) asym (keeps-filter whole test further less less further xs t (λ x y hx hy. refl) k)
+    ∙ sym (find-head further xs)

@@ -11,11 +11,12 @@ use Rattle.kern_ids.specs.declared.calls.Queue.{Queue}
 use Rattle.kern_ids.specs.declared.calls.Wish.{Wish}
 use Rattle.kern_ids.specs.declared.calls.State.{State}
 use Rattle.kernel_model.specs.declared.place.Place.{Place}
+use Rattle.kernel_model.specs.declared.place.Place.TheVariants.{Absent}
 use Rattle.kernel_model.specs.declared.place.Placed.{Placed}
 use Rattle.kernel_model.specs.declared.place.Standing.{Standing}
 use Rattle.kernel_model.specs.System.{System}
 use Rattle.kernel_model.specs.Lists.{least, pair_lt}
-use Rattle.kernel_model.specs.Mapping.{live, tasks_of}
+use Rattle.kernel_model.specs.Mapping.{live, tasks_of, mapped}
 use Rattle.kernel_model.specs.Newest.{newest}
 use Rattle.kernel_model.specs.Events.{is_map, is_purge, asked}
 use Rattle.kernel_model.specs.State.{state, state_asked}
@@ -23,13 +24,13 @@ use Rattle.kern_ids.specs.declared.calls.Wish.TheVariants.{Nonvolatile as ask_no
 use Rattle.kern_ids.specs.declared.calls.State.TheVariants.{Nonvolatile, Empty}
 use Rattle.kernel_model.proofs.Laws.Frames.{same_page-is}
 use Rattle.kernel_model.specs.Pages.{place, placed, stamp, pages_of, pages_of_size, pages_in, same_page, is_out, is_active, is_inactive}
-use Rattle.kernel_model.specs.Groups.{standing, stands_in, objects_of, is_lifo, first, standing_asked, is_volatile_state}
+use Rattle.kernel_model.specs.Groups.{standing, stands_in, objects_of, is_lifo, first, standing_asked, is_volatile_state, volatile, same_queue}
 use Rattle.kernel_model.specs.Bands.{band, bstamp, placing, Placing, sets_band, changes, wish, aged_place}
 use Rattle.kernel_model.specs.Scan.{stamp_lt, first_active, first_inactive}
 use Rattle.kernel_model.specs.Laws.Order.{Has, Rising, Keeps, Distinct}
 use Rattle.kernel_model.specs.Laws.Queues.{KeepsPages, KeepsGroup, KeepsBand, nearer, bstamp_lt}
 use Rattle.kernel_model.specs.Laws.Frames.{is_page}
-use Rattle.kernel_model.proofs.Laws.Order.{least-keeps, keeps-append, keeps-filter, keeps-front, keeps-drop, rising-agree, has-append_left, has-append_right, has-filter, filter-has}
+use Rattle.kernel_model.proofs.Laws.Order.{least-keeps, keeps-append, keeps-filter, keeps-front, keeps-drop, keeps-renew, keeps-renew_front, rising-agree, has-append_left, has-append_right, has-filter, filter-has}
 use Rattle.kernel_model.proofs.Literal.{placed-number}
 
 cases_bool : (b : Bool) → (b ≡ true) ⊎ (b ≡ false)
@@ -152,3 +153,67 @@ pub placing-bound : (boot : System) (past : List Entry) (t : ℕ) → (bstamp bo
 unfolding placing newest
 placing-bound boot [] t = zero-le
 placing-bound boot (e ∷ before) t = placing_said (is_some (sets_band t e) || (changes boot before e t && nat_eq (wish boot before t) 0)) (aged_place t e) (length before) (placing boot before t) (placing-bound boot before t)
+
+-- an object that an entry puts anew in its group: behind the others, and in LIFO before them
+nat_is : (a b : ℕ) → nat_eq a b ≡ true → a ≡ b
+nat_is a b h = elim (eqb_tells a b) [ inl same ↦ same.1 | inr other ↦ absurd (false≢true (sym other.0 ∙ h)) ]
+
+and_both : (a b : Bool) → (a && b) ≡ true → (a ≡ true) × (b ≡ true)
+and_both true b h = (refl, h)
+and_both false b h = absurd (false≢true h)
+
+nat_lt-true : (m n : ℕ) → m < n → nat_lt m n ≡ true
+nat_lt-true m n h = grind (arith, nat_tests)
+
+le_lt : (m n : ℕ) → m ≤ n → m < suc n
+le_lt m n h = omega arith
+
+stands_volatile : (boot : System) (past : List Entry) (q : Queue) (g o : ℕ) → stands_in boot past q g o ≡ true → is_volatile_state (state past o) ≡ true
+unfolding volatile
+stands_volatile boot past q g o h = (and_both (mapped boot past o) (is_volatile_state (state past o)) (and_both (volatile boot past o) (same_queue (standing past o).queue q) (and_both (volatile boot past o && same_queue (standing past o).queue q) (nat_eq (standing past o).group g) h).0).0).1
+
+pub group-enter : (boot : System) (e : Entry) (before : List Entry) (q : Queue) (g o : ℕ) (os : List ℕ) → is_lifo q ≡ false → ((x : ℕ) → nat_eq o x ≡ false → stands_in boot (e ∷ before) q g x ≡ stands_in boot before q g x) → ((x : ℕ) → nat_eq o x ≡ false → standing (e ∷ before) x ≡ standing before x) → o < length boot.objects → stands_in boot (e ∷ before) q g o ≡ true → (standing (e ∷ before) o).vstamp ≡ length before → KeepsGroup boot before q g os → KeepsGroup boot (e ∷ before) q g (filter (λ x. not (nat_eq o x)) os ++ o ∷ [])
+group-enter boot e before q g o os l same stand d now n k =
+    let below : o < 0 + length boot.objects = omega arith in
+    keeps-renew (objects_of boot) (stands_in boot before q g) (stands_in boot (e ∷ before) q g) (nearer before q) (nearer (e ∷ before) q) (nat_eq o) os (o ∷ []) same
+    (λ x w h m. inl (nat_is o x m))
+    (λ y m. elim m [ inl i ↦ (subst (Has (objects_of boot)) i (range-has 0 (length boot.objects) o zero-le below), ap (stands_in boot (e ∷ before) q g) (sym i) ∙ now) | inr f ↦ absurd f ])
+    (λ x y mx my tx ty. rw (stand x mx, stand y my) refl)
+    (λ x y mx tx m. elim m [ inl i ↦ rw (l, ← i, n, stand x mx) (nat_lt-true (standing before x).vstamp (length before) (standing-vstamp before x (stands_volatile boot before q g x tx))) | inr f ↦ absurd f ])
+    ((λ y m. absurd m), tt) k
+
+pub group-enter_lifo : (boot : System) (e : Entry) (before : List Entry) (q : Queue) (g o : ℕ) (os : List ℕ) → is_lifo q ≡ true → ((x : ℕ) → nat_eq o x ≡ false → stands_in boot (e ∷ before) q g x ≡ stands_in boot before q g x) → ((x : ℕ) → nat_eq o x ≡ false → standing (e ∷ before) x ≡ standing before x) → o < length boot.objects → stands_in boot (e ∷ before) q g o ≡ true → (standing (e ∷ before) o).vstamp ≡ length before → KeepsGroup boot before q g os → KeepsGroup boot (e ∷ before) q g (o ∷ filter (λ x. not (nat_eq o x)) os)
+group-enter_lifo boot e before q g o os l same stand d now n k =
+    let below : o < 0 + length boot.objects = omega arith in
+    keeps-renew_front (objects_of boot) (stands_in boot before q g) (stands_in boot (e ∷ before) q g) (nearer before q) (nearer (e ∷ before) q) (nat_eq o) os o same
+    (λ x m. nat_is o x m)
+    (range-has 0 (length boot.objects) o zero-le below) now
+    (λ x y mx my tx ty. rw (stand x mx, stand y my) refl)
+    (λ x mx tx. rw (l, n, stand x mx) (nat_lt-true (standing before x).vstamp (length before) (standing-vstamp before x (stands_volatile boot before q g x tx)))) k
+
+-- objects that an entry takes out of a group
+pub group-filter : (boot : System) (e : Entry) (before : List Entry) (q : Queue) (g : ℕ) (stays : ℕ → Bool) (os : List ℕ) → ((x : ℕ) → stands_in boot (e ∷ before) q g x ≡ (stays x && stands_in boot before q g x)) → ((x : ℕ) → stands_in boot (e ∷ before) q g x ≡ true → standing (e ∷ before) x ≡ standing before x) → KeepsGroup boot before q g os → KeepsGroup boot (e ∷ before) q g (filter stays os)
+group-filter boot e before q g stays os some stand k =
+    keeps-filter (objects_of boot) (stands_in boot before q g) (stands_in boot (e ∷ before) q g) (nearer before q) (nearer (e ∷ before) q) stays os some
+    (λ x y hx hy. rw (stand x hx, stand y hy) refl) k
+
+-- tasks that an entry places anew in a band stand behind the others
+pub band-enter : (boot : System) (e : Entry) (before : List Entry) (b : ℕ) (moved : ℕ → Bool) (ts new : List ℕ) → ((t : ℕ) → moved t ≡ false → live boot (e ∷ before) t ≡ live boot before t) → ((t : ℕ) → moved t ≡ false → band boot (e ∷ before) t ≡ band boot before t) → ((t : ℕ) → moved t ≡ false → bstamp boot (e ∷ before) t ≡ bstamp boot before t) → ((t : ℕ) → Has (tasks_of boot) t → (live boot (e ∷ before) t && nat_eq (band boot (e ∷ before) t) b) ≡ true → moved t ≡ true → Has new t) → ((t : ℕ) → Has new t → Has (tasks_of boot) t × ((live boot (e ∷ before) t && nat_eq (band boot (e ∷ before) t) b) ≡ true)) → ((t : ℕ) → Has new t → (bstamp boot (e ∷ before) t).0 ≡ suc (length before)) → Rising (bstamp_lt boot (e ∷ before)) new → KeepsBand boot before b ts → KeepsBand boot (e ∷ before) b (filter (λ t. not (moved t)) ts ++ new)
+band-enter boot e before b moved ts new l w s come are n r k =
+    keeps-renew (tasks_of boot) (λ t. live boot before t && nat_eq (band boot before t) b) (λ t. live boot (e ∷ before) t && nat_eq (band boot (e ∷ before) t) b) (bstamp_lt boot before) (bstamp_lt boot (e ∷ before)) moved ts new
+    (λ t m. ap₂ (λ x y. x && nat_eq y b) (l t m) (w t m))
+    come are
+    (λ t u mt mu ht hu. ap₂ (λ x y. pair_lt x y) (s t mt) (s u mu))
+    (λ t u mt ht m. pair_lt-newer (bstamp boot (e ∷ before) t) (bstamp boot (e ∷ before) u) (let o = placing-bound boot before t in rw (s t mt, n u m) (le_lt (bstamp boot before t).0 (length before) o)))
+    r k
+
+-- tasks that leave a band
+pub band-filter : (boot : System) (e : Entry) (before : List Entry) (b : ℕ) (stays : ℕ → Bool) (ts : List ℕ) → ((t : ℕ) → (live boot (e ∷ before) t && nat_eq (band boot (e ∷ before) t) b) ≡ (stays t && (live boot before t && nat_eq (band boot before t) b))) → ((t : ℕ) → (live boot (e ∷ before) t && nat_eq (band boot (e ∷ before) t) b) ≡ true → bstamp boot (e ∷ before) t ≡ bstamp boot before t) → KeepsBand boot before b ts → KeepsBand boot (e ∷ before) b (filter stays ts)
+band-filter boot e before b stays ts some s k =
+    keeps-filter (tasks_of boot) (λ t. live boot before t && nat_eq (band boot before t) b) (λ t. live boot (e ∷ before) t && nat_eq (band boot (e ∷ before) t) b) (bstamp_lt boot before) (bstamp_lt boot (e ∷ before)) stays ts some
+    (λ t u ht hu. ap₂ (λ x y. pair_lt x y) (s t ht) (s u hu)) k
+
+-- at the start a band has its tasks by their numbers, and no page or object stands anywhere
+pub pages-none : (boot : System) (k : Place → Bool) → k Absent ≡ false → KeepsPages boot [] k []
+unfolding placed newest
+pages-none boot k h = record { rising = tt; within = λ p m. absurd m; passes = λ p m. absurd m; all = λ p w t. absurd (false≢true (sym h ∙ t)) }
