@@ -5,8 +5,22 @@ use Rattle.std.specs.List.{range_with_len}
 use Rattle.std.proofs.lemmas.List.Sums.{sum_by-cons, sum_by-append}
 use Rattle.std.proofs.lemmas.List.Concat.{flat_map-cons}
 use Rattle.std.proofs.lemmas.Bool.Decides.{eqb_tells, nat_tests}
+use Rattle.std.proofs.lemmas.Bool.{cases_lt}
 use Rattle.kernel_model.specs.Laws.Frames.{bit}
 use Rattle.kernel_model.proofs.Laws.Agree.{count_by-cons, count_by-agree}
+
+bit_le : (b : Bool) → bit b ≤ 1
+bit_le true = omega arith
+bit_le false = omega arith
+
+bit_weaker : (f g : Bool) → (f ≡ true → g ≡ true) → bit f ≤ bit g
+bit_weaker true g h = rw (h refl) (omega arith)
+bit_weaker false g h = zero-le
+
+bit_either : (f g h : Bool) → (f ≡ true → (g || h) ≡ true) → bit f ≤ bit g + bit h
+bit_either true true h k = omega arith
+bit_either true false h k = rw (k refl) (omega arith)
+bit_either false g h k = zero-le
 
 both : (b : Bool) → (b ≡ true) ⊎ (b ≡ false)
 both true = inl refl
@@ -122,3 +136,58 @@ count_by-parts b f [] = omega arith
 count_by-parts b f (x ∷ xs) =
     count_by-cons f x xs ∙ rw (count_by-parts b f xs) (count_parts (b x) (f x) (count_by (λ x. b x && f x) xs) (count_by (λ x. not (b x) && f x) xs))
     ∙ sym (ap₂ (λ m n. m + n) (count_by-cons (λ x. b x && f x) x xs) (count_by-cons (λ x. not (b x) && f x) x xs))
+
+-- where a number lies behind a range, nothing changes there
+module _ (f g : ℕ → ℕ) (o : ℕ) (apart : (x : ℕ) → nat_eq o x ≡ false → f x ≡ g x) where
+  pub sum_by-after : (a n : ℕ) → a + n ≤ o → sum_by f (range_with_len a n) ≡ sum_by g (range_with_len a n)
+  sum_by-after a zero l = refl
+  sum_by-after a (suc n) l =
+      let off : nat_eq o a ≡ false = grind (arith, nat_tests) in
+      sum_by-cons f a (range_with_len (a + 1) n) ∙ rw (apart a off, sum_by-after (a + 1) n (omega arith)) (sym (sum_by-cons g a (range_with_len (a + 1) n)))
+
+-- a number stands at most once in a range, and a sum with one term is at most that term
+pub sum_by-one : (f : ℕ → ℕ) (o n : ℕ) → ((x : ℕ) → nat_eq o x ≡ false → f x ≡ 0) → sum_by f (range_with_len 0 n) ≤ f o
+sum_by-one f o n apart =
+    let z = sum_by-none (range_with_len 0 n) in
+    elim (cases_lt o n) [
+      | inl l ↦ (let below : o < 0 + n = omega arith in let s = sum_by-once f (λ x. 0) o apart 0 n zero-le below in omega arith)
+      | inr l ↦ (let past : 0 + n ≤ o = omega arith in let s = sum_by-after f (λ x. 0) o apart 0 n past in omega arith)
+    ]
+
+pub count_by-range_le : (k n : ℕ) → count_by (nat_eq k) (range_with_len 0 n) ≤ 1
+count_by-range_le k n =
+    let s = sum_by-one (λ x. bit (nat_eq k x)) k n (λ x h. ap bit h) in
+    let b = bit_le (nat_eq k k) in
+    omega arith
+
+-- a weaker test counts no less
+pub count_by-weaker : {A : Type 0} (f g : A → Bool) → ((x : A) → f x ≡ true → g x ≡ true) → (xs : List A) → count_by f xs ≤ count_by g xs
+count_by-weaker f g h [] = zero-le
+count_by-weaker f g h (x ∷ xs) =
+    let cf = count_by-cons f x xs in
+    let cg = count_by-cons g x xs in
+    let b = bit_weaker (f x) (g x) (h x) in
+    let r = count_by-weaker f g h xs in
+    omega arith
+
+-- and one of two tests no more than both together
+pub count_by-either : {A : Type 0} (f g h : A → Bool) → ((x : A) → f x ≡ true → (g x || h x) ≡ true) → (xs : List A) → count_by f xs ≤ count_by g xs + count_by h xs
+count_by-either f g h k [] = zero-le
+count_by-either f g h k (x ∷ xs) =
+    let cf = count_by-cons f x xs in
+    let cg = count_by-cons g x xs in
+    let ch = count_by-cons h x xs in
+    let b = bit_either (f x) (g x) (h x) (k x) in
+    let r = count_by-either f g h k xs in
+    omega arith
+
+-- two tests of which never both hold count together
+pub count_by-both : {A : Type 0} (f g h : A → Bool) → ((x : A) → bit (f x) ≡ bit (g x) + bit (h x)) → (xs : List A) → count_by f xs ≡ count_by g xs + count_by h xs
+count_by-both f g h k [] = omega arith
+count_by-both f g h k (x ∷ xs) =
+    let cf = count_by-cons f x xs in
+    let cg = count_by-cons g x xs in
+    let ch = count_by-cons h x xs in
+    let b = k x in
+    let r = count_by-both f g h k xs in
+    omega arith
