@@ -126,7 +126,7 @@ unfolding placed newest
 placed-number boot [] p h = absurd (true≢false h)
 placed-number boot (e ∷ before) p h = number_kept (place_given (state before p.obj) (unmaps boot before e p.obj) p (place boot before p) e) (length before) (placed boot before p) h (λ i. placed-number boot before p i)
 
-move-none : (p : PageId) (r : Reply) (c : Call) → tells r c ≡ true → is_scan_call c ≡ false → move_of p r ≡ None
+pub move-none : (p : PageId) (r : Reply) (c : Call) → tells r c ≡ true → is_scan_call c ≡ false → move_of p r ≡ None
 move-none p (Moved move q) c t s = absurd (true≢false (sym t ∙ s))
 move-none p _ c t s = refl
 

@@ -13,7 +13,8 @@ use Rattle.kern_ids.specs.declared.replies.Reply.{Reply}
 use Rattle.kern_ids.specs.declared.replies.Reply.TheVariants.{Purged, Moved, Aged, Killed, Refused, Nothing, Idle, Enough, Quiet, NoVictim}
 use Rattle.kern_ids.specs.declared.replies.Move.TheVariants.{Deactivated}
 use Rattle.kernel_model.specs.System.{System}
-use Rattle.kernel_model.specs.Answers.{answer, accepted_answer, refusal, causes}
+use Rattle.kernel_model.specs.Answers.{answer, accepted_answer, refusal, causes, shortage}
+use Rattle.kernel_model.specs.Laws.Order.{Has}
 use Rattle.kernel_model.specs.Bands.{is_tick_call}
 use Rattle.kernel_model.specs.Choice.{pick, forced}
 use Rattle.kernel_model.specs.Events.{task_of, is_reply, purged_by, killed_by}
@@ -79,3 +80,27 @@ answer-tells boot past who call = tell_some Refused (refusal boot past who call)
 
 pub legal-tells : (boot : System) (e : Entry) (before : List Entry) → IsLegal boot (e ∷ before) → tells e.reply e.call ≡ true
 legal-tells boot e before h = rw h.1 (answer-tells boot before e.who e.call)
+
+-- an answer is the refusal, or what the accepted call gets
+pub data IsAnswered (boot : System) (past : List Entry) (who : ℕ) (call : Call) : Type 0 where
+  refused : (why : Refusal) → refusal boot past who call ≡ Some why → answer boot past who call ≡ Refused why → IsAnswered boot past who call
+  gets : refusal boot past who call ≡ None → answer boot past who call ≡ accepted_answer boot past (unwrap_or (task_of boot who) 0) call → IsAnswered boot past who call
+
+answer_by : (boot : System) (past : List Entry) (who : ℕ) (call : Call) (r : Option Refusal) → refusal boot past who call ≡ r → IsAnswered boot past who call
+unfolding answer
+answer_by boot past who call (Some why) h = refused why h (ap (λ r. option_map_or Refused r (accepted_answer boot past (unwrap_or (task_of boot who) 0) call)) h)
+answer_by boot past who call None h = gets h (ap (λ r. option_map_or Refused r (accepted_answer boot past (unwrap_or (task_of boot who) 0) call)) h)
+
+pub answer-cases : (boot : System) (past : List Entry) (who : ℕ) (call : Call) → IsAnswered boot past who call
+answer-cases boot past who call = answer_by boot past who call (refusal boot past who call) refl
+
+-- an accepted call has none of the causes of a refusal
+pub first_some-none : {A : Type 0} (xs : List (Option A)) (c : Option A) → Has xs c → first_some (λ x. x) xs ≡ None → c ≡ None
+first_some-none [] c m h = absurd m
+first_some-none (Some y ∷ xs) c m h = absurd (cc)
+first_some-none (None ∷ xs) c (inl e) h = sym e
+first_some-none (None ∷ xs) c (inr m) h = first_some-none xs c m h
+
+pub accepted-shortage : (boot : System) (past : List Entry) (who : ℕ) (call : Call) → refusal boot past who call ≡ None → shortage boot past call ≡ None
+unfolding refusal
+accepted-shortage boot past who call h = first_some-none (causes boot past who call) (shortage boot past call) (inr (inr (inr (inr (inr (inr (inr (inl refl)))))))) h
