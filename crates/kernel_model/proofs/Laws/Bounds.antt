@@ -13,6 +13,8 @@ use Rattle.kern_ids.specs.declared.calls.State.{State}
 use Rattle.kern_ids.specs.declared.replies.Move.{Move}
 use Rattle.kern_ids.specs.declared.replies.Move.TheVariants.{Deactivated, Reactivated, Freed, Compressed, Requeued}
 use Rattle.kern_ids.specs.declared.replies.Refusal.{Refusal}
+use Rattle.kern_ids.specs.declared.replies.Refusal.TheVariants.{Shortage}
+use Rattle.std.proofs.lemmas.Bool.{cases_lt}
 use Rattle.kern_ids.specs.declared.replies.Reply.{Reply}
 use Rattle.kern_ids.specs.declared.replies.Reply.TheVariants.{Moved, Refused}
 use Rattle.kernel_model.specs.declared.place.Place.{Place}
@@ -36,6 +38,8 @@ use Rattle.kernel_model.proofs.Literal.{move-none}
 use Rattle.kernel_model.proofs.Laws.Answers.{answer-cases, answer-tells, accepted-shortage, IsAnswered, refused, gets}
 use Rattle.kernel_model.proofs.Laws.Scans.{scan-moved, scan_move-in, IsScanMove}
 use Rattle.kernel_model.proofs.Laws.Frames.{same_page-is}
+use Rattle.kernel_model.proofs.Laws.Kinds.{placed-moved}
+use Rattle.kernel_model.specs.Laws.Kinds.{tells}
 use Rattle.kernel_model.proofs.Laws.Agree.{count_by-agree}
 use Rattle.kernel_model.proofs.Laws.Counting.{count_by-and, count_by-range_le, count_by-weaker, count_by-either, count_by-both, count_by-none, sum_by-one}
 use Rattle.kernel_model.proofs.Laws.Frames.{pages-by_objects}
@@ -56,6 +60,27 @@ and_false false = refl
 and_second : (a b : Bool) → (a && b) ≡ true → b ≡ true
 and_second true b h = h
 and_second false b h = absurd (false≢true h)
+
+none_of_some : {A : Type 0} {x : A} → Some x ≡ None → ⊥
+none_of_some h = cc
+
+write_touch : (a w : Bool) → (a && (w || false)) ≡ true → w ≡ true
+write_touch true true h = refl
+write_touch true false h = h
+write_touch false w h = absurd (false≢true h)
+
+read_touch : (a w n : Bool) → (a && (w && n)) ≡ true → w ≡ true
+read_touch true true n h = refl
+read_touch true false n h = h
+read_touch false w n h = absurd (false≢true h)
+
+read_none : (a w : Bool) → (a && (w && false)) ≡ false
+read_none true true = refl
+read_none true false = refl
+read_none false w = refl
+
+moved_refused : {m : Move} {q : PageId} {why : Refusal} → Moved m q ≡ Refused why → ⊥
+moved_refused h = cc
 
 if_bit : (b : Bool) (n : ℕ) → n ≤ 1 → (if b then n else 0) ≤ bit b
 if_bit true n h = h
@@ -207,3 +232,121 @@ access_le boot e before x off len m t n l =
     let c = covered-needed boot before x off len in
     let f : free boot before ≡ boot.params.frames - resident_pages boot before = free-is boot before ∙ ap (λ n. boot.params.frames - n) (sym (resident-parts boot before)) in
     omega (arith, f, c, w, r)
+
+-- each call keeps the frames
+abbrev at_call : ℕ → Call → Reply → Entry
+at_call who call reply = record { who = who; call = call; reply = reply }
+
+short_none : (n f : ℕ) → some_if (nat_lt f n) (Shortage n f) ≡ None → n ≤ f
+short_none n f h = elim (cases_lt f n) [
+  | inl l ↦ absurd (let t : nat_lt f n ≡ true = grind (arith, nat_tests) in none_of_some (rw t at h))
+  | inr l ↦ l
+]
+
+cases_bool : (b : Bool) → (b ≡ true) ⊎ (b ≡ false)
+cases_bool true = inl refl
+cases_bool false = inr refl
+
+moved_in : (boot : System) (before : List Entry) (who : ℕ) (move : Move) (q : PageId) → is_in (place boot before q) ≡ true → resident_pages boot (at_call who Scan (Moved move q) ∷ before) ≤ resident_pages boot before
+moved_in boot before who move q h = count_by-weaker (λ p. is_in (place boot (at_call who Scan (Moved move q) ∷ before) p)) (λ p. is_in (place boot before p))
+    (λ p k. elim (cases_bool (same_page p q)) [
+      | inl s ↦ ap (λ x. is_in (place boot before x)) (sym (same_page-is p q s)) ∙ h
+      | inr f ↦ (let same : placed boot (at_call who Scan (Moved move q) ∷ before) p ≡ placed boot before p = placed-moved boot who move q before p ∙ rw f refl in ap (λ x. is_in x.place) (sym same) ∙ k)
+    ]) (pages_of boot)
+
+-- a reply that moves a page is the scan's
+pub scan-answer : (boot : System) (before : List Entry) (who : ℕ) (move : Move) (q : PageId) → Moved move q ≡ answer boot before who Scan → scan boot before ≡ Moved move q
+scan-answer boot before who move q h = elim (answer-cases boot before who Scan) [
+  | refused why r a ↦ absurd (moved_refused (h ∙ a))
+  | gets r a ↦ sym (h ∙ a)
+]
+
+scan_frames : (boot : System) (before : List Entry) (who : ℕ) (reply : Reply) → reply ≡ answer boot before who Scan → resident_pages boot (at_call who Scan reply ∷ before) ≤ resident_pages boot before
+scan_frames boot before who (Moved move q) h = moved_in boot before who move q (scan_move-in boot before move q (scan-moved boot before move q (scan-answer boot before who move q h)).chosen)
+scan_frames boot before who reply h = resident-still boot (at_call who Scan reply) before (λ p. and_false (is_reply reply)) (λ p. refl)
+
+-- a refused call leaves the places
+refused_frames : (boot : System) (before : List Entry) (who : ℕ) (call : Call) (reply : Reply) (why : Refusal) → reply ≡ Refused why → resident_pages boot before ≤ boot.params.frames → resident_pages boot (at_call who call reply ∷ before) ≤ boot.params.frames
+refused_frames boot before who call reply why h l =
+    let s = resident-still boot (at_call who call reply) before (λ p. rw h refl) (λ p. rw h refl) in
+    omega arith
+
+write_frames : (boot : System) (before : List Entry) (who x off : ℕ) (bytes : List ℕ) (reply : Reply) → reply ≡ answer boot before who (Write x off bytes) → IsAnswered boot before who (Write x off bytes) → resident_pages boot before ≤ boot.params.frames → resident_pages boot (at_call who (Write x off bytes) reply ∷ before) ≤ boot.params.frames
+unfolding short_of
+write_frames boot before who x off bytes reply h (refused why r a) l = refused_frames boot before who (Write x off bytes) reply why (h ∙ a) l
+write_frames boot before who x off bytes reply h (gets r a) l =
+    access_le boot (at_call who (Write x off bytes) reply) before x off (length bytes)
+    (λ p. move-none p reply (Write x off bytes) (rw h (answer-tells boot before who (Write x off bytes))) refl)
+    (λ p t. write_touch (is_reply reply) (nat_eq x p.obj && reaches_page off (length bytes) p.page) t)
+    (short_none (needed boot before x off (length bytes)) (free boot before) (accepted-shortage boot before who (Write x off bytes) r)) l
+
+read_empty : (boot : System) (before : List Entry) (who x off len : ℕ) (reply : Reply) (p : PageId) → is_empty (state before x) ≡ true → touches before (at_call who (Read x off len) reply) p ≡ false
+read_empty boot before who x off len reply p e = elim (eqb_tells x p.obj) [
+  | inl same ↦ (let s : is_empty (state before p.obj) ≡ true = ap (λ o. is_empty (state before o)) (sym same.1) ∙ e in rw s (read_none (is_reply reply) (nat_eq x p.obj && reaches_page off len p.page)))
+  | inr other ↦ rw (other.0) (and_false (is_reply reply))
+]
+
+read_frames : (boot : System) (before : List Entry) (who x off len : ℕ) (reply : Reply) → reply ≡ answer boot before who (Read x off len) → IsAnswered boot before who (Read x off len) → resident_pages boot before ≤ boot.params.frames → resident_pages boot (at_call who (Read x off len) reply ∷ before) ≤ boot.params.frames
+unfolding short_of
+read_frames boot before who x off len reply h (refused why r a) l = refused_frames boot before who (Read x off len) reply why (h ∙ a) l
+read_frames boot before who x off len reply h (gets r a) l =
+    let m : (p : PageId) → move_of p reply ≡ None = λ p. move-none p reply (Read x off len) (rw h (answer-tells boot before who (Read x off len))) refl in
+    elim (cases_bool (is_empty (state before x))) [
+      | inl e ↦ (let s = resident-still boot (at_call who (Read x off len) reply) before (λ p. read_empty boot before who x off len reply p e) m in omega arith)
+      | inr f ↦ access_le boot (at_call who (Read x off len) reply) before x off len m
+          (λ p t. read_touch (is_reply reply) (nat_eq x p.obj && reaches_page off len p.page) (not (is_empty (state before p.obj))) t)
+          (short_none (needed boot before x off len) (free boot before) (let s = accepted-shortage boot before who (Read x off len) r in rw f at s)) l
+    ]
+
+step_frames : (boot : System) (before : List Entry) (who : ℕ) (call : Call) (reply : Reply) → reply ≡ answer boot before who call → resident_pages boot before ≤ boot.params.frames → resident_pages boot (at_call who call reply ∷ before) ≤ boot.params.frames
+step_frames boot before who (Write x off bytes) reply h l = write_frames boot before who x off bytes reply h (answer-cases boot before who (Write x off bytes)) l
+step_frames boot before who (Read x off len) reply h l = read_frames boot before who x off len reply h (answer-cases boot before who (Read x off len)) l
+step_frames boot before who Scan reply h l = let s = scan_frames boot before who reply h in omega arith
+step_frames boot before who call reply h l =
+    let s = resident-still boot (at_call who call reply) before (λ p. and_false (is_reply reply)) (λ p. move-none p reply call (rw h (answer-tells boot before who call)) refl) in
+    omega arith
+
+-- the Active and Inactive pages together are at most the frames
+resident-within : (boot : System) (past : List Entry) → IsLegal boot past → resident_pages boot past ≤ boot.params.frames
+unfolding placed newest
+resident-within boot [] l = let z = count_by-none (λ p. is_in (place boot [] p)) (λ p. refl) (pages_of boot) in omega arith
+resident-within boot (e ∷ before) l = step_frames boot before e.who e.call e.reply l.1 (resident-within boot before l.2)
+
+pub frames-hold : (boot : System) (past : List Entry) → IsLegal boot past → active_pages boot past + inactive_pages boot past ≤ boot.params.frames
+frames-hold boot past l = let r = resident-within boot past l in let p = resident-parts boot past in omega arith
+
+-- so what is free and what is in frames are all frames
+pub free-frames : (boot : System) (past : List Entry) → IsLegal boot past → free boot past + (active_pages boot past + inactive_pages boot past) ≡ boot.params.frames
+free-frames boot past l = let f = frames-hold boot past l in let g = free-is boot past in omega arith
+
+-- the store
+store_brings : (move : Move) → is_stored (moved_to move) ≡ is_compressing move
+store_brings Deactivated = refl
+store_brings Reactivated = refl
+store_brings Freed = refl
+store_brings Compressed = refl
+store_brings Requeued = refl
+
+bit_room : (b : Bool) (m n : ℕ) → (b ≡ true → m < n) → m ≤ n → m + bit b ≤ n
+bit_room true m n h l = let k = h refl in omega arith
+bit_room false m n h l = omega arith
+
+store_step : (boot : System) (before : List Entry) (who : ℕ) (call : Call) (reply : Reply) → reply ≡ answer boot before who call → stored_pages boot before ≤ boot.params.store → stored_pages boot before + bit (brings is_stored reply) ≤ boot.params.store
+store_step boot before who Scan (Moved move q) h l =
+    let m = scan-moved boot before move q (scan-answer boot before who move q h) in
+    bit_room (is_stored (moved_to move)) (stored_pages boot before) boot.params.store (λ b. m.room (sym (store_brings move) ∙ b)) l
+store_step boot before who call (Moved move q) h l = absurd (false≢true (ap (λ r. tells r call) h ∙ answer-tells boot before who call))
+store_step boot before who call reply h l = omega arith
+
+-- the Stored pages are at most the store's
+pub store-holds : (boot : System) (past : List Entry) → IsLegal boot past → stored_pages boot past ≤ boot.params.store
+unfolding placed newest
+store-holds boot [] l = let z = count_by-none (λ p. is_stored (place boot [] p)) (λ p. refl) (pages_of boot) in omega arith
+store-holds boot (e ∷ before) l =
+    let c = counted-le boot e before is_stored refl refl in
+    let s = store_step boot before e.who e.call e.reply l.1 (store-holds boot before l.2) in
+    omega arith
+
+-- a ripe deadline stays ripe
+pub ripe-stays : (boot : System) (e : Entry) (before : List Entry) (d : ℕ) → d ≤ left boot before → d ≤ left boot (e ∷ before)
+ripe-stays boot e before d h = let r = left-rises boot e before in omega arith
