@@ -5,3 +5,4 @@ pub mod Frames
 pub mod Literal
 pub mod Order
 pub mod Queues
+pub mod Legal
