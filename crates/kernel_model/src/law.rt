@@ -10,3 +10,4 @@ pub mod pages;
 pub mod quiet;
 pub mod state;
 pub mod tasks;
+pub mod steps;
