@@ -15,6 +15,8 @@ use Rattle.kernel_model.specs.Victims.{is_eligible, over_fatal, over_soft}
 use Rattle.kernel_model.specs.Groups.{volatile, standing, same_queue, objects_of}
 use Rattle.kernel_model.specs.Deadlines.{Deadlines, deadlines, of_queue}
 use Rattle.kernel_model.specs.Lists.{pair_lt, some_if}
+use Rattle.kernel_model.specs.Laws.Order.{Has}
+use Rattle.kernel_model.specs.Laws.Frames.{bit}
 
 -- t stands before u: in a lower band, or in the same with a lower stamp
 abbrev pub Precedes : System → List Entry → ℕ → ℕ → Type 0
@@ -47,3 +49,25 @@ lost past o = newest (λ before was e. decides o e) false past
 -- an emptying of o came after the newest entry that decides it
 unfoldable pub emptied_since : List Entry → ℕ → Bool
 emptied_since past o = newest (λ before was e. if is_some (decides o e) then Some false else some_if (empties o before e) true) false past
+
+-- a list of numbers in rising order, equals allowed
+abbrev pub Climbs : List ℕ → Type 0
+Climbs [] = Unit {0}
+Climbs (x ∷ xs) = ((y : ℕ) → Has xs y → x ≤ y) × Climbs xs
+
+-- how many volatile objects a queue has
+abbrev pub queue_objects : System → List Entry → Queue → ℕ
+queue_objects boot past q = count_by (λ o. volatile boot past o && same_queue (standing past o).queue q) (objects_of boot)
+
+-- the deadlines of the three lists together
+abbrev pub all_deadlines : Deadlines → List ℕ
+all_deadlines d = d.obsolete ++ d.lifo ++ d.fifo
+
+-- each list of deadlines is rising, and as long as its queue has volatile objects
+pub record HasTokens (boot : System) (past : List Entry) : Type 0 where
+  pub rising : (q : Queue) → Climbs (of_queue (deadlines boot past) q)
+  pub count : (q : Queue) → length (of_queue (deadlines boot past) q) ≡ queue_objects boot past q
+
+-- of two lists the second is the first without one number
+abbrev pub IsWithout : List ℕ → ℕ → List ℕ → Type 0
+IsWithout xs x ys = (k : ℕ) → count_by (nat_eq k) xs ≡ count_by (nat_eq k) ys + bit (nat_eq k x)
