@@ -92,7 +92,7 @@ pub record IsSound (d : Deadlines) (c : Queue → ℕ) (n : ℕ) : Type 0 where
   pub zero : (x : ℕ) → Has d.obsolete x → x ≡ 0
   pub bound : (q : Queue) (x : ℕ) → Has (of_queue d q) x → x ≤ n
 
-with_queue-of : (d : Deadlines) (q p : Queue) (xs : List ℕ) → of_queue (with_queue d q xs) p ≡ (if same_queue q p then xs else of_queue d p)
+pub with_queue-of : (d : Deadlines) (q p : Queue) (xs : List ℕ) → of_queue (with_queue d q xs) p ≡ (if same_queue q p then xs else of_queue d p)
 with_queue-of d Obsolete Obsolete xs = refl
 with_queue-of d Obsolete Lifo xs = refl
 with_queue-of d Obsolete Fifo xs = refl
@@ -103,7 +103,7 @@ with_queue-of d Fifo Obsolete xs = refl
 with_queue-of d Fifo Lifo xs = refl
 with_queue-of d Fifo Fifo xs = refl
 
-same_queue-is : (q p : Queue) → same_queue q p ≡ true → q ≡ p
+pub same_queue-is : (q p : Queue) → same_queue q p ≡ true → q ≡ p
 same_queue-is Obsolete Obsolete h = refl
 same_queue-is Lifo Lifo h = refl
 same_queue-is Fifo Fifo h = refl
@@ -129,3 +129,127 @@ sound-first d c n q s = sound-with d c n q (drop 1 (of_queue d q)) s (climbs-dro
 
 pub sound-last : (d : Deadlines) (c : Queue → ℕ) (n : ℕ) (q : Queue) → IsSound d c n → IsSound (without_last q d) (λ p. if same_queue q p then length (but_last (of_queue d q)) else c p) n
 sound-last d c n q s = sound-with d c n q (but_last (of_queue d q)) s (climbs-but_last (of_queue d q) (s.rising q)) (λ x h. s.bound q x (has-but_last (of_queue d q) x h)) (λ x e h. s.zero x (of_obsolete d q x e (has-but_last (of_queue d q) x h)))
+
+pub sound-count : (d : Deadlines) (c k : Queue → ℕ) (n m : ℕ) → ((q : Queue) → c q ≡ k q) → n ≤ m → IsSound d c n → IsSound d k m
+sound-count d c k n m e l s = record {
+  rising = s.rising;
+  count = λ q. s.count q ∙ e q;
+  zero = s.zero;
+  bound = λ q x h. le_through x n m (s.bound q x h) l;
+}
+
+less_one : (b : Bool) (m n : ℕ) → m ≡ n - 1 → (p q : ℕ) → (b ≡ true → p ≡ n) → (if b then m else p) ≡ p - bit b
+less_one true m n e p q h = e ∙ ap (λ x. x - 1) (sym (h refl))
+less_one false m n e p q h = omega arith
+
+-- a queue loses its first or its last
+pub sound-less_first : (d : Deadlines) (c : Queue → ℕ) (n : ℕ) (q : Queue) → IsSound d c n → IsSound (without_first q d) (λ p. c p - bit (same_queue q p)) n
+sound-less_first d c n q s =
+    sound-count (without_first q d) (λ p. if same_queue q p then length (drop 1 (of_queue d q)) else c p) (λ p. c p - bit (same_queue q p)) n n
+    (λ p. less_one (same_queue q p) (length (drop 1 (of_queue d q))) (c q) (length-drop_one (of_queue d q) ∙ ap (λ x. x - 1) (s.count q)) (c p) 0 (λ t. ap c (sym (same_queue-is q p t)))) (omega arith) (sound-first d c n q s)
+
+pub sound-less_last : (d : Deadlines) (c : Queue → ℕ) (n : ℕ) (q : Queue) → IsSound d c n → IsSound (without_last q d) (λ p. c p - bit (same_queue q p)) n
+sound-less_last d c n q s =
+    sound-count (without_last q d) (λ p. if same_queue q p then length (but_last (of_queue d q)) else c p) (λ p. c p - bit (same_queue q p)) n n
+    (λ p. less_one (same_queue q p) (length (but_last (of_queue d q))) (c q) (length-but_last (of_queue d q) ∙ ap (λ x. x - 1) (s.count q)) (c p) 0 (λ t. ap c (sym (same_queue-is q p t)))) (omega arith) (sound-last d c n q s)
+
+-- a queue gets a new last, which is no less than all others
+more_one : (b : Bool) (m n : ℕ) → m ≡ n + 1 → (p : ℕ) → (b ≡ true → p ≡ n) → (if b then m else p) ≡ p + bit b
+more_one true m n e p h = e ∙ ap (λ x. x + 1) (sym (h refl))
+more_one false m n e p h = omega arith
+
+one_has : (x y : ℕ) → Has (y ∷ []) x → y ≡ x
+one_has x y (inl e) = e
+one_has x y (inr f) = absurd f
+
+pub sound-push : (d : Deadlines) (c : Queue → ℕ) (n y : ℕ) (q : Queue) → y ≤ n → ((x : ℕ) → Has (of_queue d q) x → x ≤ y) → (q ≡ Obsolete → y ≡ 0) → IsSound d c n → IsSound (with_queue d q (of_queue d q ++ y ∷ [])) (λ p. c p + bit (same_queue q p)) n
+sound-push d c n y q l above z s =
+    let xs = of_queue d q ++ y ∷ [] in
+    sound-count (with_queue d q xs) (λ p. if same_queue q p then length xs else c p) (λ p. c p + bit (same_queue q p)) n n
+    (λ p. more_one (same_queue q p) (length xs) (c q) (length-append (of_queue d q) (y ∷ []) ∙ ap (λ x. x + 1) (s.count q)) (c p) (λ t. ap c (sym (same_queue-is q p t)))) (omega arith)
+    (sound-with d c n q xs s (climbs-push (of_queue d q) y (s.rising q) above)
+    (λ x h. elim (has-append_cases (of_queue d q) (y ∷ []) x h) [ inl m ↦ s.bound q x m | inr r ↦ subst (λ w. w ≤ n) (one_has x y r) l ])
+    (λ x e h. elim (has-append_cases (of_queue d q) (y ∷ []) x h) [ inl m ↦ s.zero x (of_obsolete d q x e m) | inr r ↦ sym (one_has x y r) ∙ z e ]))
+
+-- a deadline moves from the head of one queue into another, whose own first goes
+moved_has : (xs ys : List ℕ) (x : ℕ) → Has (first_into xs ys) x → Has xs x ⊎ Has ys x
+moved_has [] ys x h = inr h
+moved_has (y ∷ xs) ys x h = elim (has-put y ys x h) [ inl e ↦ inl (inl e) | inr m ↦ inr m ]
+
+moved_climbs : (xs ys : List ℕ) → Climbs ys → Climbs (first_into xs ys)
+moved_climbs [] ys c = c
+moved_climbs (y ∷ xs) ys c = climbs-put y ys c
+
+moved_length : (xs ys : List ℕ) → 1 ≤ length xs → length (first_into xs ys) ≡ length ys + 1
+moved_length [] ys l = absurd (omega arith)
+moved_length (y ∷ xs) ys l = length-put y ys
+
+move_count : (r q : Bool) (m cp : ℕ) → (r ≡ true → q ≡ false) → (r ≡ true → m ≡ cp) → (if r then m else cp - bit q) ≡ cp - bit q
+move_count true true m cp a h = absurd (true≢false (a refl))
+move_count true false m cp a h = let e = h refl in omega arith
+move_count false q m cp a h = refl
+
+queues_apart : (q r p : Queue) → same_queue q r ≡ false → same_queue r p ≡ true → same_queue q p ≡ false
+queues_apart q r p h k = ap (same_queue q) (sym (same_queue-is r p k)) ∙ h
+
+pub sound-move : (d : Deadlines) (c : Queue → ℕ) (n : ℕ) (r q : Queue) → same_queue q r ≡ false → (r ≡ Obsolete → ⊥) → 1 ≤ c q → 1 ≤ c r → IsSound d c n → IsSound (with_queue (without_first q d) r (first_into (of_queue d q) (drop 1 (of_queue d r)))) (λ p. c p - bit (same_queue q p)) n
+sound-move d c n r q off o some ripe s =
+    let xs = first_into (of_queue d q) (drop 1 (of_queue d r)) in
+    let long : length xs ≡ c r = (let a = moved_length (of_queue d q) (drop 1 (of_queue d r)) (rw (s.count q) some) in let b = length-drop_one (of_queue d r) in let e = s.count r in omega (arith, a, b, e, ripe)) in
+    sound-count (with_queue (without_first q d) r xs) (λ p. if same_queue r p then length xs else c p - bit (same_queue q p)) (λ p. c p - bit (same_queue q p)) n n
+    (λ p. move_count (same_queue r p) (same_queue q p) (length xs) (c p) (λ k. queues_apart q r p off k) (λ k. long ∙ ap c (same_queue-is r p k))) (omega arith)
+    (sound-with (without_first q d) (λ p. c p - bit (same_queue q p)) n r xs (sound-less_first d c n q s)
+    (moved_climbs (of_queue d q) (drop 1 (of_queue d r)) (climbs-drop (of_queue d r) (s.rising r)))
+    (λ x h. elim (moved_has (of_queue d q) (drop 1 (of_queue d r)) x h) [ inl m ↦ s.bound q x m | inr m ↦ s.bound r x (has-drop (of_queue d r) x m) ])
+    (λ x e h. absurd (o e)))
+
+-- what begins ripe has a first, and it is ripe
+pub ripe_first : (n : ℕ) (xs : List ℕ) → begins_ripe n xs ≡ true → (x : ℕ) × (x ≤ n) × (xs ≡ x ∷ drop 1 xs)
+ripe_first n [] h = absurd (false≢true h)
+ripe_first n (x ∷ xs) h = (x, le_true x n h, refl)
+
+-- how often a number stands in the three lists
+abbrev times : ℕ → List ℕ → ℕ
+times k xs = count_by (nat_eq k) xs
+
+times-all : (k : ℕ) (d : Deadlines) → times k (all_deadlines d) ≡ times k d.obsolete + (times k d.lifo + times k d.fifo)
+times-all k d =
+    let a : times k (d.obsolete ++ d.lifo ++ d.fifo) ≡ times k (d.obsolete ++ d.lifo) + times k d.fifo = sum_by-append (λ y. bit (nat_eq k y)) (d.obsolete ++ d.lifo) d.fifo in
+    let b : times k (d.obsolete ++ d.lifo) ≡ times k d.obsolete + times k d.lifo = sum_by-append (λ y. bit (nat_eq k y)) d.obsolete d.lifo in
+    omega (arith, a, b)
+
+times-with : (k : ℕ) (d : Deadlines) (q : Queue) (xs : List ℕ) → times k (all_deadlines (with_queue d q xs)) + times k (of_queue d q) ≡ times k (all_deadlines d) + times k xs
+times-with k d Obsolete xs = let a = times-all k d in let b = times-all k (with_queue d Obsolete xs) in omega (arith, a, b)
+times-with k d Lifo xs = let a = times-all k d in let b = times-all k (with_queue d Lifo xs) in omega (arith, a, b)
+times-with k d Fifo xs = let a = times-all k d in let b = times-all k (with_queue d Fifo xs) in omega (arith, a, b)
+
+times-put : (k x : ℕ) (xs : List ℕ) → times k (put_deadline x xs) ≡ times k xs + bit (nat_eq k x)
+times-put k x [] = omega (arith, count_by-cons (nat_eq k) x [])
+times-put k x (d ∷ ds) =
+    let c = count_by-cons (nat_eq k) d ds in
+    elim (cases_bool (nat_le d x)) [
+      | inl t ↦ rw t (let p = times-put k x ds in let e = count_by-cons (nat_eq k) d (put_deadline x ds) in omega (arith, c, p, e))
+      | inr f ↦ rw f (let e = count_by-cons (nat_eq k) x (d ∷ ds) in omega (arith, c, e))
+    ]
+
+-- a queue without its first
+pub without_first-times : (d : Deadlines) (q : Queue) (x : ℕ) → of_queue d q ≡ x ∷ drop 1 (of_queue d q) → IsWithout (all_deadlines d) x (all_deadlines (without_first q d))
+without_first-times d q x h k =
+    let w = times-with k d q (drop 1 (of_queue d q)) in
+    let c : times k (of_queue d q) ≡ bit (nat_eq k x) + times k (drop 1 (of_queue d q)) = ap (times k) h ∙ count_by-cons (nat_eq k) x (drop 1 (of_queue d q)) in
+    omega (arith, w, c)
+
+-- the move takes the first of the ripe queue
+moved_times : (k : ℕ) (xs ys : List ℕ) → times k (first_into xs ys) + times k (drop 1 xs) ≡ times k ys + times k xs
+moved_times k [] ys = refl
+moved_times k (x ∷ xs) ys = let p = times-put k x ys in let c = count_by-cons (nat_eq k) x xs in omega (arith, p, c)
+
+pub move-times : (d : Deadlines) (r q : Queue) (x : ℕ) → same_queue q r ≡ false → of_queue d r ≡ x ∷ drop 1 (of_queue d r) → IsWithout (all_deadlines d) x (all_deadlines (with_queue (without_first q d) r (first_into (of_queue d q) (drop 1 (of_queue d r)))))
+move-times d r q x off h k =
+    let w = times-with k d q (drop 1 (of_queue d q)) in
+    let v = times-with k (without_first q d) r (first_into (of_queue d q) (drop 1 (of_queue d r))) in
+    let same : of_queue (without_first q d) r ≡ of_queue d r = with_queue-of d q r (drop 1 (of_queue d q)) ∙ rw off refl in
+    let s : times k (of_queue (without_first q d) r) ≡ times k (of_queue d r) = ap (times k) same in
+    let c : times k (of_queue d r) ≡ bit (nat_eq k x) + times k (drop 1 (of_queue d r)) = ap (times k) h ∙ count_by-cons (nat_eq k) x (drop 1 (of_queue d r)) in
+    let m = moved_times k (of_queue d q) (drop 1 (of_queue d r)) in
+    omega (arith, w, v, s, c, m)
