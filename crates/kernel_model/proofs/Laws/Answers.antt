@@ -2,29 +2,30 @@
 use Rattle.std.proofs.Common.{◌≡◌, ℕ, List, [], ◌∷◌, Option, Some, None, refl, sym, ap, ◌∙◌, Bool, true, false, not, ◌&&◌, ◌||◌, if◌then◌else◌, inl, inr, ◌⊎◌, nat_le, nat_lt, subst}
 use Rattle.std.specs.Option.{option_map_or, unwrap_or}
 use Rattle.std.specs.Prelude.{IsTrue}
-use Rattle.std.proofs.lemmas.Bool.{false≢true}
+use Rattle.std.proofs.lemmas.Bool.{false≢true, true≢false}
 use Rattle.kern_ids.specs.declared.entries.Entry.{Entry}
 use Rattle.kern_ids.specs.declared.ids.PageId.{PageId}
 use Rattle.kern_ids.specs.declared.calls.Call.{Call}
 use Rattle.kern_ids.specs.declared.calls.Call.TheVariants.{Scan, Jetsam, PurgeOne, Forced, Tick, SetBand, SetLimits, Map, Unmap, Attach, Write, Read, SetState, GetState, Active, Ledger, Exit, Info, Purgeables}
 use Rattle.kern_ids.specs.declared.replies.Refusal.{Refusal}
+use Rattle.kern_ids.specs.declared.replies.Refusal.TheVariants.{NoObject, Already, Invalid}
 use Rattle.kern_ids.specs.declared.replies.Cause.{Cause}
 use Rattle.kern_ids.specs.declared.replies.Reply.{Reply}
 use Rattle.kern_ids.specs.declared.replies.Reply.TheVariants.{Purged, Moved, Aged, Killed, Refused, Nothing, Idle, Enough, Quiet, NoVictim}
 use Rattle.kern_ids.specs.declared.replies.Move.TheVariants.{Deactivated}
 use Rattle.kernel_model.specs.System.{System}
-use Rattle.kernel_model.specs.Answers.{answer, accepted_answer, refusal, causes, shortage}
+use Rattle.kernel_model.specs.Answers.{answer, accepted_answer, refusal, causes, shortage, no_object, already, invalid}
 use Rattle.kernel_model.specs.Laws.Order.{Has}
 use Rattle.kernel_model.specs.Bands.{is_tick_call}
 use Rattle.kernel_model.specs.Choice.{pick, forced}
 use Rattle.kernel_model.specs.Events.{task_of, is_reply, purged_by, killed_by}
 use Rattle.kernel_model.specs.Histories.{fits, IsLegal}
-use Rattle.kernel_model.specs.Lists.{first_some}
+use Rattle.kernel_model.specs.Lists.{first_some, some_if}
 use Rattle.kernel_model.specs.Pages.{move_of, free, inactive_pages, is_deactivation}
 use Rattle.kernel_model.specs.Scan.{scan, scan_rest, scan_inactive, first_active, first_inactive}
 use Rattle.kernel_model.specs.Pages.{touched_since, written, stored_pages}
 use Rattle.kernel_model.specs.Victims.{victim, killed_for, least_task, over_fatal, over_soft, is_eligible}
-use Rattle.kernel_model.specs.Laws.Kinds.{tells}
+use Rattle.kernel_model.specs.Laws.Kinds.{tells, is_purging_call}
 
 tell_if : (b : Bool) (x y : Reply) (call : Call) → tells x call ≡ true → tells y call ≡ true → tells (if b then x else y) call ≡ true
 tell_if true x y call h k = h
@@ -104,3 +105,25 @@ first_some-none (None ∷ xs) c (inr m) h = first_some-none xs c m h
 pub accepted-shortage : (boot : System) (past : List Entry) (who : ℕ) (call : Call) → refusal boot past who call ≡ None → shortage boot past call ≡ None
 unfolding refusal
 accepted-shortage boot past who call h = first_some-none (causes boot past who call) (shortage boot past call) (inr (inr (inr (inr (inr (inr (inr (inl refl)))))))) h
+
+some_if_none : {A : Type 0} (b : Bool) (x : A) → some_if b x ≡ None → b ≡ false
+some_if_none true x h = absurd (cc)
+some_if_none false x h = refl
+
+module _ (boot : System) (past : List Entry) (who : ℕ) (call : Call) (h : refusal boot past who call ≡ None) where
+  pub accepted-no_object : no_object boot past (unwrap_or (task_of boot who) 0) call ≡ false
+  unfolding refusal
+  accepted-no_object = some_if_none (no_object boot past (unwrap_or (task_of boot who) 0) call) NoObject (first_some-none (causes boot past who call) (some_if (no_object boot past (unwrap_or (task_of boot who) 0) call) NoObject) (inr (inr (inl refl))) h)
+
+  pub accepted-already : already boot past (unwrap_or (task_of boot who) 0) call ≡ false
+  unfolding refusal
+  accepted-already = some_if_none (already boot past (unwrap_or (task_of boot who) 0) call) Already (first_some-none (causes boot past who call) (some_if (already boot past (unwrap_or (task_of boot who) 0) call) Already) (inr (inr (inr (inl refl)))) h)
+
+  pub accepted-invalid : invalid call ≡ false
+  unfolding refusal
+  accepted-invalid = some_if_none (invalid call) Invalid (first_some-none (causes boot past who call) (some_if (invalid call) Invalid) (inr (inr (inr (inr (inl refl))))) h)
+
+-- a reply that purges is that to a purging call
+pub purge-none : (r : Reply) (c : Call) → tells r c ≡ true → is_purging_call c ≡ false → purged_by r ≡ None
+purge-none (Purged o) c t s = absurd (true≢false (sym t ∙ s))
+purge-none _ c t s = refl

@@ -90,7 +90,7 @@ le_same : {n : ℕ} → n ≡ 0 → n ≤ 0
 le_same h = omega arith
 
 -- a page stands at most once among all pages
-nat_eq-swap : (a b : ℕ) → nat_eq a b ≡ nat_eq b a
+pub nat_eq-swap : (a b : ℕ) → nat_eq a b ≡ nat_eq b a
 nat_eq-swap a b = elim (eqb_tells a b) [
   | inl same ↦ rw (same.1) refl
   | inr other ↦ elim (eqb_tells b a) [ inl same ↦ absurd (other.1 (sym same.1)) | inr back ↦ other.0 ∙ sym back.0 ]

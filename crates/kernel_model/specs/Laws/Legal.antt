@@ -9,7 +9,9 @@ use Rattle.kernel_model.specs.System.{System}
 use Rattle.kernel_model.specs.Newest.{newest}
 use Rattle.kernel_model.specs.Events.{is_map, is_purge, asked}
 use Rattle.kernel_model.specs.Contents.{empties}
-use Rattle.kernel_model.specs.Pages.{free}
+use Rattle.kernel_model.specs.Pages.{free, left}
+use Rattle.kern_ids.specs.declared.calls.Call.{Call}
+use Rattle.kern_ids.specs.declared.calls.Call.TheVariants.{PurgeOne, Scan}
 use Rattle.kernel_model.specs.Bands.{band, bstamp}
 use Rattle.kernel_model.specs.Victims.{is_eligible, over_fatal, over_soft}
 use Rattle.kernel_model.specs.Groups.{volatile, standing, same_queue, objects_of}
@@ -71,3 +73,15 @@ pub record HasTokens (boot : System) (past : List Entry) : Type 0 where
 -- of two lists the second is the first without one number
 abbrev pub IsWithout : List ℕ → ℕ → List ℕ → Type 0
 IsWithout xs x ys = (k : ℕ) → count_by (nat_eq k) xs ≡ count_by (nat_eq k) ys + bit (nat_eq k x)
+
+-- a purge takes one deadline out of the three lists together, and a ripe one
+pub record TakesRipe (boot : System) (e : Entry) (before : List Entry) : Type 0 where
+  pub deadline : ℕ
+  pub ripe : deadline ≤ left boot before
+  pub taken : IsWithout (all_deadlines (deadlines boot before)) deadline (all_deadlines (deadlines boot (e ∷ before)))
+
+-- the calls that purge by a ripe deadline
+abbrev pub is_ripe_call : Call → Bool
+is_ripe_call PurgeOne = true
+is_ripe_call Scan = true
+is_ripe_call _ = false
