@@ -53,7 +53,7 @@ nat_is : (a b : ℕ) → nat_eq a b ≡ true → a ≡ b
 nat_is a b h = elim (eqb_tells a b) [ inl same ↦ same.1 | inr other ↦ absurd (false≢true (sym other.0 ∙ h)) ]
 
 -- the lists stand well
-abbrev Stands : System → List Entry → Type 0
+abbrev pub Stands : System → List Entry → Type 0
 Stands boot past = IsSound (deadlines boot past) (queue_objects boot past) (entered past)
 
 -- object o stands in queue q
@@ -206,14 +206,14 @@ unfolding next_entered
 entered-rises e before = rw (entered-more e before) (entered_le (is_deactivation e.reply) (entered before))
 
 -- an entry that says nothing of states, mappings begun and purges
-record IsPlain (e : Entry) : Type 0 where
-  map : (o : ℕ) → is_map o e ≡ false
-  attach : (o : ℕ) → is_attach o e ≡ false
-  asks : (o : ℕ) → asked o e ≡ None
-  set : (if accepted e then set_by e.call else None) ≡ None
-  purge : purged_by e.reply ≡ None
+pub record IsPlain (e : Entry) : Type 0 where
+  pub map : (o : ℕ) → is_map o e ≡ false
+  pub attach : (o : ℕ) → is_attach o e ≡ false
+  pub asks : (o : ℕ) → asked o e ≡ None
+  pub set : (if accepted e then set_by e.call else None) ≡ None
+  pub purge : purged_by e.reply ≡ None
 
-plain_sound : (boot : System) (e : Entry) (before : List Entry) → IsPlain e → Stands boot before → Stands boot (e ∷ before)
+pub plain_sound : (boot : System) (e : Entry) (before : List Entry) → IsPlain e → Stands boot before → Stands boot (e ∷ before)
 unfolding volatile unmaps
 plain_sound boot e before p k =
     unmapping_sound boot e before p.set p.purge
@@ -222,28 +222,28 @@ plain_sound boot e before p k =
     (entered-rises e before) k
 
 -- any refused call, and any call but Map, Attach, SetState and those that purge
-abbrev at_call : ℕ → Call → Reply → Entry
+abbrev pub at_call : ℕ → Call → Reply → Entry
 at_call who call reply = record { who = who; call = call; reply = reply }
 
-and_false : (b : Bool) → (b && false) ≡ false
+pub and_false : (b : Bool) → (b && false) ≡ false
 and_false true = refl
 and_false false = refl
 
 abbrev no_wish : Option Wish
 no_wish = None
 
-wish_none : (b : Bool) → (if b then no_wish else no_wish) ≡ None
+pub wish_none : (b : Bool) → (if b then no_wish else no_wish) ≡ None
 wish_none true = refl
 wish_none false = refl
 
 abbrev no_set : Option (ℕ × Wish)
 no_set = None
 
-set_none : (b : Bool) → (if b then no_set else no_set) ≡ None
+pub set_none : (b : Bool) → (if b then no_set else no_set) ≡ None
 set_none true = refl
 set_none false = refl
 
-refused_plain : (who : ℕ) (call : Call) (reply : Reply) (why : Refusal) → reply ≡ Refused why → IsPlain (at_call who call reply)
+pub refused_plain : (who : ℕ) (call : Call) (reply : Reply) (why : Refusal) → reply ≡ Refused why → IsPlain (at_call who call reply)
 refused_plain who call reply why h = record {
   map = λ o. rw h refl;
   attach = λ o. rw h refl;
@@ -259,7 +259,7 @@ same_sound boot e before d v t k =
     (sound-count (deadlines boot before) (queue_objects boot before) (queue_objects boot (e ∷ before)) (entered before) (entered (e ∷ before))
     (λ q. sym (count_by-agree (in_queue boot (e ∷ before) q) (in_queue boot before q) (λ o. ap₂ (λ x y. x && same_queue y.queue q) (v o) (t o)) (objects_of boot))) (entered-rises e before) k)
 
-map_sound : (boot : System) (before : List Entry) (who x : ℕ) → mapped boot before x ≡ false → Stands boot before → Stands boot (map_entry who x ∷ before)
+pub map_sound : (boot : System) (before : List Entry) (who x : ℕ) → mapped boot before x ≡ false → Stands boot before → Stands boot (map_entry who x ∷ before)
 unfolding volatile
 map_sound boot before who x m k =
     let e = map_entry who x in
@@ -280,7 +280,7 @@ attached_mapped true true h k = refl
 attached_mapped true false h k = absurd (true≢false k)
 attached_mapped false n h k = absurd (false≢true h)
 
-attach_sound : (boot : System) (before : List Entry) (who x : ℕ) → mapped boot before x ≡ true → Stands boot before → Stands boot (attach_entry who x ∷ before)
+pub attach_sound : (boot : System) (before : List Entry) (who x : ℕ) → mapped boot before x ≡ true → Stands boot before → Stands boot (attach_entry who x ∷ before)
 unfolding volatile
 attach_sound boot before who x m k =
     let e = attach_entry who x in
@@ -299,7 +299,7 @@ set_in : (boot : System) (past : List Entry) (x : ℕ) (q : Queue) → mapped bo
 unfolding volatile
 set_in boot past x q m = rw m refl
 
-setting_sound : (boot : System) (before : List Entry) (who x word : ℕ) (old : State) (w : Wish) → decoded word ≡ Some w → x < length boot.objects → mapped boot before x ≡ true → Stands boot before → Stands boot (set_entry who x word old ∷ before)
+pub setting_sound : (boot : System) (before : List Entry) (who x word : ℕ) (old : State) (w : Wish) → decoded word ≡ Some w → x < length boot.objects → mapped boot before x ≡ true → Stands boot before → Stands boot (set_entry who x word old ∷ before)
 unfolding volatile
 setting_sound boot before who x word old w d l m k =
     let e = set_entry who x word old in
@@ -406,7 +406,7 @@ module _ (boot : System) (before : List Entry) (who o : ℕ) (k : Stands boot be
       (λ p. let e = count p in omega arith) (omega arith)
       (sound-less_first (deadlines boot before) (queue_objects boot before) (entered before) q k))
 
-  purge_sound : (call : Call) → PurgedBy boot before o call → Stands boot (at_call who call (Purged o) ∷ before)
+  pub purge_sound : (call : Call) → PurgedBy boot before o call → Stands boot (at_call who call (Purged o) ∷ before)
   purge_sound call (one h) =
       let e : Entry = at_call who PurgeOne (Purged o) in
       ripe_purge_sound e (pick-chosen boot before o h) (λ r g. deadlines-purge boot who o r before g) (λ x. refl) (λ x. refl) refl (λ x. mapped-kept boot e before x (λ t. maps-kept boot e before x t refl refl)) (entered-kept e before refl)

@@ -11,10 +11,11 @@ ghost use Rattle.kernel_model.specs.Contents.{byte};
 ghost use Rattle.kernel_model.specs.Events.{asked};
 ghost use Rattle.kernel_model.specs.Groups.{volatile};
 ghost use Rattle.kernel_model.specs.Histories.{IsLegal};
-ghost use Rattle.kernel_model.specs.Laws.Legal.{IsPressed, emptied_since, lost};
+ghost use Rattle.kernel_model.specs.Laws.Legal.{HasTokens, IsPressed, TakesRipe, emptied_since, is_ripe_call, lost};
 ghost use Rattle.kernel_model.specs.Pages.{active_pages, free, inactive_pages, left, placed, stored_pages};
 ghost use Rattle.kernel_model.specs.State.{state};
 ghost use Rattle.kernel_model.specs.System.{System};
+ghost use Rattle.kernel_model.specs.Valid.{IsValidBoot};
 ghost use Rattle.std.specs.Prelude.{List, Some, false, nat_eq, true, ℕ, ◌+◌, ◌↔◌, ◌∷◌, ◌≡◌, ◌≤◌};
 
 /// An object that is purged was volatile, and no page of another object changes its place, and no byte of another object changes.
@@ -31,6 +32,14 @@ pub fn set_state()
     ensures old { (boot : System) (e : Entry) (before : List Entry) (o : ℕ) (w : Wish) → IsLegal boot (e ∷ before) → asked o e ≡ Some w → e.reply ≡ Old (state before o) }
     ensures lost { (boot : System) (e : Entry) (before : List Entry) (o : ℕ) (w : Wish) → IsLegal boot (e ∷ before) → asked o e ≡ Some w → (e.reply ≡ Old Empty) ↔ (lost before o ≡ true) }
     ensures none_since { (past : List Entry) (o : ℕ) → emptied_since past o ≡ false }
+{
+}
+
+/// Each list of deadlines is rising and as long as its queue has volatile objects, where what the kernel begins with is valid.
+/// A PurgeOne or Scan that purges takes exactly one deadline out of the three lists together, and that one was ripe.
+pub fn tokens()
+    ensures hold { (boot : System) (past : List Entry) → IsValidBoot boot → IsLegal boot past → HasTokens boot past }
+    ensures taken { (boot : System) (e : Entry) (before : List Entry) (o : ℕ) → IsLegal boot (e ∷ before) → e.reply ≡ Purged o → is_ripe_call e.call ≡ true → TakesRipe boot e before }
 {
 }
 
