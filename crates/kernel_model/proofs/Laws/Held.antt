@@ -46,15 +46,15 @@ side_task n (Some (Task t)) h s = h (Task t) refl
 side_task n (Some Kernel) h s = absurd (false≢true s)
 side_task n None h s = absurd (false≢true s)
 
-declared_task : (boot : System) (who : ℕ) → IsValidBoot boot → IsTrue (is_some (task_of boot who)) → unwrap_or (task_of boot who) 0 < length boot.tasks
+pub declared_task : (boot : System) (who : ℕ) → IsValidBoot boot → IsTrue (is_some (task_of boot who)) → unwrap_or (task_of boot who) 0 < length boot.tasks
 declared_task boot who v s = side_task (length boot.tasks) (slice_get boot.sides who)
     (λ side h. subst (IsValidSide (length boot.tasks)) (get_or_from_slice_get boot.sides who side side h) (All-get_or (IsValidSide (length boot.tasks)) boot.sides who side (slice_get_within boot.sides who side h) v.sides)) s
 
-maps_mapped : (boot : System) (past : List Entry) (o t : ℕ) → t < length boot.tasks → maps boot past o t ≡ true → mapped boot past o ≡ true
+pub maps_mapped : (boot : System) (past : List Entry) (o t : ℕ) → t < length boot.tasks → maps boot past o t ≡ true → mapped boot past o ≡ true
 unfolding mapped
 maps_mapped boot past o t l m = any-has (maps boot past o) (tasks_of boot) t (let b : t < 0 + length boot.tasks = omega arith in range-has 0 (length boot.tasks) t zero-le b) m
 
-not_false : (b : Bool) → not b ≡ false → b ≡ true
+pub not_false : (b : Bool) → not b ≡ false → b ≡ true
 not_false true h = refl
 not_false false h = absurd (true≢false h)
 

@@ -62,19 +62,19 @@ emptied_since-none (e ∷ before) o = since_next (is_map o e) (is_purge o e) (no
 abbrev no_wish : Option Wish
 no_wish = None
 
-if_none : (b : Bool) (w : Wish) → (if b then no_wish else no_wish) ≡ Some w → ⊥
+pub if_none : (b : Bool) (w : Wish) → (if b then no_wish else no_wish) ≡ Some w → ⊥
 if_none true w h = cc
 if_none false w h = cc
 
-if_some : {A : Type 0} (b : Bool) (x : Option A) (w : A) → (if b then x else None) ≡ Some w → b ≡ true
+pub if_some : {A : Type 0} (b : Bool) (x : Option A) (w : A) → (if b then x else None) ≡ Some w → b ≡ true
 if_some true x w h = refl
 if_some false x w h = absurd (cc)
 
-if_given : {A : Type 0} (b : Bool) (x : Option A) (w : A) → (if b then x else None) ≡ Some w → x ≡ Some w
+pub if_given : {A : Type 0} (b : Bool) (x : Option A) (w : A) → (if b then x else None) ≡ Some w → x ≡ Some w
 if_given true x w h = h
 if_given false x w h = absurd (cc)
 
-nat_is : (a b : ℕ) → nat_eq a b ≡ true → a ≡ b
+pub nat_is : (a b : ℕ) → nat_eq a b ≡ true → a ≡ b
 nat_is a b h = elim (eqb_tells a b) [ inl same ↦ same.1 | inr other ↦ absurd (false≢true (sym other.0 ∙ h)) ]
 
 old_of : (boot : System) (before : List Entry) (who : ℕ) (call : Call) (reply : Reply) (o : ℕ) (w : Wish) → reply ≡ answer boot before who call → (if is_reply reply then wish_call o call else None) ≡ Some w → reply ≡ Old (state before o)

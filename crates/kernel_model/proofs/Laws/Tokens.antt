@@ -185,7 +185,7 @@ any_more p q (t ∷ ts) k h = elim (cases_bool (p t)) [
   | inr fails ↦ (let r : list_any p ts ≡ true = rw fails at h in rw (any_more p q ts k r) (or_true (q t)))
 ]
 
-mapped_before : (boot : System) (e : Entry) (before : List Entry) (o : ℕ) → is_map o e ≡ false → is_attach o e ≡ false → mapped boot (e ∷ before) o ≡ true → mapped boot before o ≡ true
+pub mapped_before : (boot : System) (e : Entry) (before : List Entry) (o : ℕ) → is_map o e ≡ false → is_attach o e ≡ false → mapped boot (e ∷ before) o ≡ true → mapped boot before o ≡ true
 unfolding mapped
 mapped_before boot e before o m a h = any_more (maps boot (e ∷ before) o) (maps boot before o) (tasks_of boot) (λ t. maps_before boot e before o t m a) h
 

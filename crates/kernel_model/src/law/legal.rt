@@ -2,21 +2,23 @@
 
 ghost use Rattle.kern_ids.specs.declared.calls.State.TheVariants.{Empty};
 ghost use Rattle.kern_ids.specs.declared.calls.Wish.{Wish};
+ghost use Rattle.kern_ids.specs.declared.calls.Wish.TheVariants.{Nonvolatile as ask_nonvolatile};
 ghost use Rattle.kern_ids.specs.declared.entries.Entry.{Entry};
 ghost use Rattle.kern_ids.specs.declared.ids.PageId.{PageId};
 ghost use Rattle.kern_ids.specs.declared.replies.Cause.TheVariants.{Pressure};
 ghost use Rattle.kern_ids.specs.declared.replies.Reply.TheVariants.{Killed, Old, Purged};
 ghost use Rattle.kernel_model.specs.Bands.{bstamp};
-ghost use Rattle.kernel_model.specs.Contents.{byte};
-ghost use Rattle.kernel_model.specs.Events.{asked};
+ghost use Rattle.kernel_model.specs.Contents.{byte, empties};
+ghost use Rattle.kernel_model.specs.Events.{asked, written_byte};
 ghost use Rattle.kernel_model.specs.Groups.{volatile};
 ghost use Rattle.kernel_model.specs.Histories.{IsLegal};
-ghost use Rattle.kernel_model.specs.Laws.Legal.{HasTokens, IsPressed, TakesRipe, emptied_since, is_ripe_call, lost};
+ghost use Rattle.kernel_model.specs.Laws.Legal.{HasTokens, IsPressed, TakesRipe, decides, emptied_since, is_ripe_call, lost};
+ghost use Rattle.kernel_model.specs.Laws.Literal.{gift_after, newest_gift, newest_number};
 ghost use Rattle.kernel_model.specs.Pages.{active_pages, free, inactive_pages, left, placed, stored_pages};
 ghost use Rattle.kernel_model.specs.State.{state};
 ghost use Rattle.kernel_model.specs.System.{System};
 ghost use Rattle.kernel_model.specs.Valid.{IsValidBoot};
-ghost use Rattle.std.specs.Prelude.{List, Some, false, nat_eq, true, ℕ, ◌+◌, ◌↔◌, ◌∷◌, ◌≡◌, ◌≤◌};
+ghost use Rattle.std.specs.Prelude.{List, Some, false, is_some, nat_eq, true, ℕ, ◌+◌, ◌↔◌, ◌∷◌, ◌≡◌, ◌≤◌};
 
 /// An object that is purged was volatile, and no page of another object changes its place, and no byte of another object changes.
 pub fn purge()
@@ -27,11 +29,14 @@ pub fn purge()
 }
 
 /// An accepted SetState answers the state before it. That is EMPTY exactly where the newest Map, purge, or SetState NONVOLATILE
-/// or EMPTY was a purge or a SetState EMPTY; and no emptying came after that entry.
+/// or EMPTY was a purge or a SetState EMPTY; no emptying came after
+/// that entry, which there is, and after a SetState NONVOLATILE each byte is that of the newest Write since the newest emptying, or 0.
 pub fn set_state()
     ensures old { (boot : System) (e : Entry) (before : List Entry) (o : ℕ) (w : Wish) → IsLegal boot (e ∷ before) → asked o e ≡ Some w → e.reply ≡ Old (state before o) }
     ensures lost { (boot : System) (e : Entry) (before : List Entry) (o : ℕ) (w : Wish) → IsLegal boot (e ∷ before) → asked o e ≡ Some w → (e.reply ≡ Old Empty) ↔ (lost before o ≡ true) }
     ensures none_since { (past : List Entry) (o : ℕ) → emptied_since past o ≡ false }
+    ensures decided { (boot : System) (e : Entry) (before : List Entry) (o : ℕ) (w : Wish) → IsValidBoot boot → IsLegal boot (e ∷ before) → asked o e ≡ Some w → is_some (newest_number (λ before e. is_some (decides o e)) before) ≡ true }
+    ensures bytes { (boot : System) (e : Entry) (before : List Entry) (o b : ℕ) → IsLegal boot (e ∷ before) → asked o e ≡ Some ask_nonvolatile → byte (e ∷ before) o b ≡ gift_after (newest_number (empties o) before) (newest_gift (written_byte o b) before) }
 {
 }
 
