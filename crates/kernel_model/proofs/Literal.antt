@@ -1,11 +1,11 @@
 -- The bytes and the touched pages once more, by numbers of entries.
 -- The bytes by two numbers of entries: the newest Write that covers the byte, and the newest emptying.
 use Rattle.std.proofs.Common.{◌≡◌, ℕ, suc, ◌<◌, List, [], ◌∷◌, length, Bool, true, false, nat_lt, Option, Some, None, option_map, if◌then◌else◌, refl, sym, ◌∙◌, not, ◌&&◌, ◌||◌, arith}
-use Rattle.std.specs.Option.{unwrap_or, option_map_or}
+use Rattle.std.specs.Option.{unwrap_or}
 use Rattle.std.proofs.lemmas.Bool.Decides.{nat_tests}
 use Rattle.kernel_model.specs.Newest.{newest}
 use Rattle.kernel_model.specs.Lists.{some_if}
-use Rattle.kernel_model.specs.Laws.Literal.{newest_number, newest_gift, newer, gift_after, is_after}
+use Rattle.kernel_model.specs.Laws.Literal.{newest_number, newest_gift, gift_after, is_after}
 use Rattle.kern_ids.specs.declared.entries.Entry.{Entry}
 use Rattle.kern_ids.specs.declared.ids.PageId.{PageId}
 use Rattle.kern_ids.specs.declared.calls.Call.{Call}

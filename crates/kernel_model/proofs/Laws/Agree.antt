@@ -1,5 +1,5 @@
 -- Tests that agree find, keep and count the same.
-use Rattle.std.proofs.Common.{◌≡◌, ℕ, ◌+◌, List, [], ◌∷◌, ◌++◌, length, Option, Some, None, refl, ap, ap₂, ◌∙◌, sym, Bool, true, false, not, cond, ◌||◌, find, filter, count_by, if◌then◌else◌}
+use Rattle.std.proofs.Common.{◌≡◌, ◌+◌, List, [], ◌∷◌, refl, ap, ◌∙◌, sym, Bool, not, cond, find, filter, count_by}
 use Rattle.std.specs.List.{list_any}
 use Rattle.kernel_model.specs.Lists.{least}
 use Rattle.std.proofs.lemmas.List.Sums.{sum_by-cons}

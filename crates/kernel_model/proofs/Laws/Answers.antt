@@ -1,27 +1,25 @@
 -- What the answer to a call can be, and so what a legal history's entries can be.
-use Rattle.std.proofs.Common.{◌≡◌, ℕ, List, [], ◌∷◌, Option, Some, None, refl, sym, ap, ◌∙◌, Bool, true, false, not, ◌&&◌, ◌||◌, if◌then◌else◌, inl, inr, ◌⊎◌, nat_le, nat_lt, subst}
+use Rattle.std.proofs.Common.{◌≡◌, ℕ, List, [], ◌∷◌, Option, Some, None, refl, sym, ap, ◌∙◌, Bool, true, false, not, if◌then◌else◌, inl, inr, nat_le, nat_lt}
 use Rattle.std.specs.Option.{option_map_or, unwrap_or}
-use Rattle.std.specs.Prelude.{IsTrue}
-use Rattle.std.proofs.lemmas.Bool.{false≢true, true≢false}
+use Rattle.std.proofs.lemmas.Bool.{true≢false}
 use Rattle.kern_ids.specs.declared.entries.Entry.{Entry}
 use Rattle.kern_ids.specs.declared.ids.PageId.{PageId}
 use Rattle.kern_ids.specs.declared.calls.Call.{Call}
-use Rattle.kern_ids.specs.declared.calls.Call.TheVariants.{Scan, Jetsam, PurgeOne, Forced, Tick, SetBand, SetLimits, Map, Unmap, Attach, Write, Read, SetState, GetState, Active, Ledger, Exit, Info, Purgeables}
+use Rattle.kern_ids.specs.declared.calls.Call.TheVariants.{Scan, Jetsam, PurgeOne, Forced}
 use Rattle.kern_ids.specs.declared.replies.Refusal.{Refusal}
 use Rattle.kern_ids.specs.declared.replies.Refusal.TheVariants.{NoObject, Already, Invalid}
 use Rattle.kern_ids.specs.declared.replies.Cause.{Cause}
 use Rattle.kern_ids.specs.declared.replies.Reply.{Reply}
-use Rattle.kern_ids.specs.declared.replies.Reply.TheVariants.{Purged, Moved, Aged, Killed, Refused, Nothing, Idle, Enough, Quiet, NoVictim}
+use Rattle.kern_ids.specs.declared.replies.Reply.TheVariants.{Purged, Moved, Refused, Nothing, Idle, Enough, Quiet, NoVictim}
 use Rattle.kern_ids.specs.declared.replies.Move.TheVariants.{Deactivated}
 use Rattle.kernel_model.specs.System.{System}
 use Rattle.kernel_model.specs.Answers.{answer, accepted_answer, refusal, causes, shortage, no_object, already, invalid}
 use Rattle.kernel_model.specs.Laws.Order.{Has}
-use Rattle.kernel_model.specs.Bands.{is_tick_call}
 use Rattle.kernel_model.specs.Choice.{pick, forced}
-use Rattle.kernel_model.specs.Events.{task_of, is_reply, purged_by, killed_by}
-use Rattle.kernel_model.specs.Histories.{fits, IsLegal}
+use Rattle.kernel_model.specs.Events.{task_of, purged_by}
+use Rattle.kernel_model.specs.Histories.{IsLegal}
 use Rattle.kernel_model.specs.Lists.{first_some, some_if}
-use Rattle.kernel_model.specs.Pages.{move_of, free, inactive_pages, is_deactivation}
+use Rattle.kernel_model.specs.Pages.{free, inactive_pages}
 use Rattle.kernel_model.specs.Scan.{scan, scan_rest, scan_inactive, first_active, first_inactive}
 use Rattle.kernel_model.specs.Pages.{touched_since, written, stored_pages}
 use Rattle.kernel_model.specs.Victims.{victim, killed_for, least_task, over_fatal, over_soft, is_eligible}

@@ -1,15 +1,14 @@
 -- The frames and the store of every legal history hold their pages, and what left never falls.
-use Rattle.std.proofs.Common.{◌≡◌, ℕ, suc, ◌+◌, ◌-◌, ◌<◌, ◌≤◌, List, [], ◌∷◌, length, Option, Some, None, refl, sym, ap, ap₂, ◌∙◌, Bool, true, false, not, cond, ◌&&◌, ◌||◌, count_by, nat_eq, nat_lt, if◌then◌else◌, inl, inr, ◌⊎◌, arith, zero-le}
+use Rattle.std.proofs.Common.{◌≡◌, ℕ, ◌+◌, ◌-◌, ◌<◌, ◌≤◌, List, [], ◌∷◌, length, Option, Some, None, refl, sym, ap, ap₂, ◌∙◌, Bool, true, false, not, ◌&&◌, ◌||◌, count_by, nat_eq, nat_lt, if◌then◌else◌, inl, inr, ◌⊎◌, arith, zero-le}
 use Rattle.std.specs.Option.{option_map_or, unwrap_or}
-use Rattle.std.specs.Prelude.{option_map, IsTrue, sum_by}
+use Rattle.std.specs.Prelude.{option_map, sum_by}
 use Rattle.std.specs.List.{range_with_len}
-use Rattle.std.proofs.lemmas.Bool.{false≢true, true≢false}
+use Rattle.std.proofs.lemmas.Bool.{false≢true}
 use Rattle.std.proofs.lemmas.Bool.Decides.{eqb_tells, nat_tests}
 use Rattle.kern_ids.specs.declared.entries.Entry.{Entry}
 use Rattle.kern_ids.specs.declared.ids.PageId.{PageId}
 use Rattle.kern_ids.specs.declared.calls.Call.{Call}
 use Rattle.kern_ids.specs.declared.calls.Call.TheVariants.{Write, Read, Scan}
-use Rattle.kern_ids.specs.declared.calls.State.{State}
 use Rattle.kern_ids.specs.declared.replies.Move.{Move}
 use Rattle.kern_ids.specs.declared.replies.Move.TheVariants.{Deactivated, Reactivated, Freed, Compressed, Requeued}
 use Rattle.kern_ids.specs.declared.replies.Refusal.{Refusal}
@@ -27,23 +26,22 @@ use Rattle.kernel_model.specs.State.{state, is_empty}
 use Rattle.kernel_model.specs.Contents.{empties}
 use Rattle.kernel_model.specs.Events.{is_reply, reaches_page}
 use Rattle.kernel_model.specs.Lists.{some_if}
-use Rattle.kernel_model.specs.Pages.{place, placed, next_placed, place_given, move_of, moved_to, same_page, touches, touches_from, is_out, is_active, is_inactive, is_stored, pages_of, pages_in, active_pages, inactive_pages, stored_pages, free, left, entered, next_entered, is_deactivation}
-use Rattle.kernel_model.specs.Answers.{answer, refusal, accepted_answer, needed}
-use Rattle.kernel_model.specs.Histories.{IsLegal, fits}
-use Rattle.kernel_model.specs.Laws.Frames.{bit, is_page, is_in, resident_pages, is_compressing, is_compression}
-use Rattle.kernel_model.specs.Answers.{shortage, short_of}
+use Rattle.kernel_model.specs.Pages.{place, placed, move_of, moved_to, same_page, touches, is_out, is_active, is_inactive, is_stored, pages_of, pages_in, active_pages, inactive_pages, stored_pages, free, left, entered, next_entered, is_deactivation}
+use Rattle.kernel_model.specs.Answers.{answer, needed}
+use Rattle.kernel_model.specs.Histories.{IsLegal}
+use Rattle.kernel_model.specs.Laws.Frames.{bit, is_in, resident_pages, is_compressing}
+use Rattle.kernel_model.specs.Answers.{short_of}
 use Rattle.kernel_model.specs.Scan.{scan}
-use Rattle.kernel_model.specs.Events.{task_of}
 use Rattle.kernel_model.proofs.Literal.{move-none}
 use Rattle.kernel_model.proofs.Laws.Answers.{answer-cases, answer-tells, accepted-shortage, IsAnswered, refused, gets}
-use Rattle.kernel_model.proofs.Laws.Scans.{scan-moved, scan_move-in, IsScanMove}
+use Rattle.kernel_model.proofs.Laws.Scans.{scan-moved, scan_move-in}
 use Rattle.kernel_model.proofs.Laws.Frames.{same_page-is}
 use Rattle.kernel_model.proofs.Laws.Kinds.{placed-moved}
 use Rattle.kernel_model.specs.Laws.Kinds.{tells}
 use Rattle.kernel_model.proofs.Laws.Agree.{count_by-agree}
 use Rattle.kernel_model.proofs.Laws.Counting.{count_by-and, count_by-range_le, count_by-weaker, count_by-either, count_by-both, count_by-none, sum_by-one}
 use Rattle.kernel_model.proofs.Laws.Frames.{pages-by_objects}
-use Rattle.kernel_model.proofs.Laws.Pages.{placed-more, entered-more, left-is, free-is}
+use Rattle.kernel_model.proofs.Laws.Pages.{entered-more, left-is, free-is}
 
 or_true : (b : Bool) → (b || true) ≡ true
 or_true true = refl

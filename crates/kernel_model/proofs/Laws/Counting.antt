@@ -1,5 +1,5 @@
 -- Sums and counts that change at one element.
-use Rattle.std.proofs.Common.{◌≡◌, ℕ, zero, suc, ◌+◌, ◌-◌, ◌<◌, ◌≤◌, List, [], ◌∷◌, ◌++◌, length, map, refl, sym, ap, ap₂, ◌∙◌, Bool, true, false, not, cond, ◌&&◌, ◌||◌, count_by, nat_eq, nat_lt, if◌then◌else◌, arith, inl, inr, ◌⊎◌, zero-le}
+use Rattle.std.proofs.Common.{◌≡◌, ℕ, zero, suc, ◌+◌, ◌<◌, ◌≤◌, List, [], ◌∷◌, map, refl, sym, ap, ap₂, ◌∙◌, Bool, true, false, not, cond, ◌&&◌, ◌||◌, count_by, nat_eq, if◌then◌else◌, arith, inl, inr, ◌⊎◌, zero-le}
 use Rattle.std.specs.Prelude.{sum_by, flat_map}
 use Rattle.std.specs.List.{range_with_len}
 use Rattle.std.proofs.lemmas.List.Sums.{sum_by-cons, sum_by-append}
@@ -7,7 +7,7 @@ use Rattle.std.proofs.lemmas.List.Concat.{flat_map-cons}
 use Rattle.std.proofs.lemmas.Bool.Decides.{eqb_tells, nat_tests}
 use Rattle.std.proofs.lemmas.Bool.{cases_lt}
 use Rattle.kernel_model.specs.Laws.Frames.{bit}
-use Rattle.kernel_model.proofs.Laws.Agree.{count_by-cons, count_by-agree}
+use Rattle.kernel_model.proofs.Laws.Agree.{count_by-cons}
 
 bit_le : (b : Bool) → bit b ≤ 1
 bit_le true = omega arith

@@ -1,21 +1,19 @@
 -- Of a mapped object an entry has decided whether its bytes are lost, and a SetState NONVOLATILE leaves the bytes.
-use Rattle.std.proofs.Common.{◌≡◌, ℕ, List, [], ◌∷◌, length, Option, Some, None, refl, sym, ap, ap₂, ◌∙◌, subst, Bool, true, false, not, ◌&&◌, ◌||◌, nat_eq, if◌then◌else◌, inl, inr, ◌⊎◌}
+use Rattle.std.proofs.Common.{◌≡◌, ℕ, List, [], ◌∷◌, length, Option, Some, None, refl, sym, ap, ◌∙◌, Bool, true, false, ◌&&◌, nat_eq, if◌then◌else◌, inl, inr, ◌⊎◌}
 use Rattle.std.specs.Prelude.{is_some, IsTrue}
 use Rattle.std.specs.Option.{unwrap_or}
-use Rattle.std.proofs.lemmas.Bool.{false≢true, true≢false, and_parts}
+use Rattle.std.proofs.lemmas.Bool.{false≢true, and_parts}
 use Rattle.kern_ids.specs.declared.entries.Entry.{Entry}
 use Rattle.kern_ids.specs.declared.calls.Call.{Call}
 use Rattle.kern_ids.specs.declared.calls.Call.TheVariants.{Attach, SetState}
 use Rattle.kern_ids.specs.declared.calls.Wish.{Wish}
 use Rattle.kern_ids.specs.declared.calls.Wish.TheVariants.{Nonvolatile as ask_nonvolatile}
 use Rattle.kern_ids.specs.declared.replies.Reply.{Reply}
-use Rattle.kern_ids.specs.declared.replies.Reply.TheVariants.{Old, Refused}
 use Rattle.kernel_model.specs.System.{System}
 use Rattle.kernel_model.specs.Newest.{newest}
 use Rattle.kernel_model.specs.Valid.{IsValidBoot}
 use Rattle.kernel_model.specs.Events.{is_map, is_attach, is_attach_call, is_map_call, is_reply, asked, wish_call, purged_by, written_byte, task_of, accepted}
 use Rattle.kernel_model.specs.Mapping.{live, maps, said_maps, mapped, tasks_of}
-use Rattle.kernel_model.specs.State.{state}
 use Rattle.kernel_model.specs.Contents.{byte, empties}
 use Rattle.kernel_model.specs.Answers.{answer}
 use Rattle.kernel_model.specs.Histories.{IsLegal, fits, names_fit, same, is_task_call}
@@ -24,7 +22,7 @@ use Rattle.kernel_model.specs.Laws.Legal.{decides}
 use Rattle.kernel_model.specs.Laws.Literal.{newest_number, newest_gift, gift_after}
 use Rattle.kernel_model.proofs.Literal.{byte-is}
 use Rattle.kernel_model.proofs.Laws.Order.{any-none}
-use Rattle.kernel_model.proofs.Laws.Answers.{IsAnswered, refused, gets, answer-cases, accepted-no_object}
+use Rattle.kernel_model.proofs.Laws.Answers.{refused, gets, answer-cases, accepted-no_object}
 use Rattle.kernel_model.proofs.Laws.Kept.{byte-kept}
 use Rattle.kernel_model.proofs.Laws.Lost.{set-answer, if_some, if_given, if_none, nat_is}
 use Rattle.kernel_model.proofs.Laws.Tokens.{mapped_before}

@@ -1,5 +1,5 @@
 -- The numbers of pages after an entry: by one page, and by one object.
-use Rattle.std.proofs.Common.{◌≡◌, ℕ, ◌+◌, ◌-◌, ◌<◌, ◌≤◌, List, [], ◌∷◌, length, map, refl, sym, ap, ap₂, ◌∙◌, Bool, true, false, not, cond, ◌&&◌, ◌||◌, count_by, nat_eq, nat_lt, if◌then◌else◌, arith, inl, inr, zero-le}
+use Rattle.std.proofs.Common.{◌≡◌, ℕ, ◌+◌, ◌<◌, List, ◌∷◌, length, refl, sym, ap, ap₂, ◌∙◌, Bool, true, false, ◌&&◌, count_by, nat_eq, nat_lt, if◌then◌else◌, arith, inl, inr, zero-le}
 use Rattle.std.specs.Prelude.{sum_by}
 use Rattle.std.specs.List.{range_with_len}
 use Rattle.std.specs.Option.{option_map_or}
@@ -19,7 +19,7 @@ use Rattle.kernel_model.specs.Groups.{is_volatile_state}
 use Rattle.kernel_model.specs.Pages.{is_stored}
 use Rattle.kernel_model.specs.Laws.Frames.{is_page, pages_at, has_share, share_of, is_in, bit}
 use Rattle.kernel_model.proofs.Laws.Agree.{count_by-agree}
-use Rattle.kernel_model.proofs.Laws.Counting.{count_by-once, count_by-apart, count_by-flat_map, count_by-map, sum_by-agree, sum_by-once, sum_by-none, count_by-none, count_by-range, count_by-and}
+use Rattle.kernel_model.proofs.Laws.Counting.{count_by-once, count_by-flat_map, count_by-map, sum_by-agree, sum_by-once, sum_by-none, count_by-none, count_by-range, count_by-and}
 
 -- a test of a page is the test of two numbers
 nat_is : (a b : ℕ) → nat_eq a b ≡ true → a ≡ b

@@ -1,8 +1,7 @@
 -- The lists of deadlines over a whole legal history.
-use Rattle.std.proofs.Common.{◌≡◌, ℕ, suc, ◌+◌, ◌<◌, ◌≤◌, List, [], ◌∷◌, length, get_or, Option, Some, None, refl, sym, ap, ap₂, ◌∙◌, subst, Bool, true, false, not, ◌&&◌, count_by, nat_lt, ◌⊎◌, inl, inr, arith, zero-le, All}
+use Rattle.std.proofs.Common.{◌≡◌, ℕ, ◌+◌, ◌<◌, List, [], ◌∷◌, length, Option, Some, None, refl, sym, ap, ◌∙◌, subst, Bool, true, false, not, ◌&&◌, nat_lt, ◌⊎◌, inl, inr, arith, zero-le}
 use Rattle.std.specs.Prelude.{IsTrue, is_some, is_none, option_and_then, slice_get}
 use Rattle.std.specs.Option.{unwrap_or}
-use Rattle.std.specs.List.{list_any}
 use Rattle.std.proofs.lemmas.Bool.{false≢true, true≢false, and_parts, ltb-true}
 use Rattle.std.proofs.lemmas.List.Elements.{All-get_or}
 use Rattle.std.proofs.lemmas.Option.{slice_get_within, get_or_from_slice_get}
@@ -11,9 +10,8 @@ use Rattle.kern_ids.specs.declared.calls.Call.{Call}
 use Rattle.kern_ids.specs.declared.calls.Call.TheVariants.{Map, Attach, SetState, PurgeOne, Forced, Scan}
 use Rattle.kern_ids.specs.declared.calls.Queue.{Queue}
 use Rattle.kern_ids.specs.declared.calls.Queue.TheVariants.{Obsolete, Lifo, Fifo}
-use Rattle.kern_ids.specs.declared.calls.Wish.{Wish}
 use Rattle.kern_ids.specs.declared.replies.Reply.{Reply}
-use Rattle.kern_ids.specs.declared.replies.Reply.TheVariants.{Purged, Mapped, Attached, Old, Refused}
+use Rattle.kern_ids.specs.declared.replies.Reply.TheVariants.{Purged}
 use Rattle.kern_ids.specs.StateWord.{decoded}
 use Rattle.kernel_model.specs.declared.boot.Side.{Side}
 use Rattle.kernel_model.specs.declared.boot.Side.TheVariants.{Task, Kernel}
@@ -22,9 +20,8 @@ use Rattle.kernel_model.specs.Valid.{IsValidBoot, IsValidSide}
 use Rattle.kernel_model.specs.Events.{task_of, task_of_side, is_reply, purged_by}
 use Rattle.kernel_model.specs.Mapping.{maps, mapped, tasks_of}
 use Rattle.kernel_model.specs.State.{state}
-use Rattle.kernel_model.specs.Groups.{volatile, is_volatile_state, standing, same_queue, objects_of}
+use Rattle.kernel_model.specs.Groups.{volatile, standing, same_queue, objects_of}
 use Rattle.kernel_model.specs.Newest.{newest}
-use Rattle.kernel_model.specs.Pages.{entered}
 use Rattle.kernel_model.specs.Deadlines.{deadlines, of_queue}
 use Rattle.kernel_model.specs.Answers.{answer}
 use Rattle.kernel_model.specs.Histories.{IsLegal, fits, names_fit, same, is_task_call}
@@ -36,8 +33,7 @@ use Rattle.kernel_model.proofs.Laws.Counting.{count_by-none}
 use Rattle.kernel_model.proofs.Laws.Order.{any-has}
 use Rattle.kernel_model.proofs.Laws.Queues.{range-has}
 use Rattle.kernel_model.proofs.Laws.Purges.{purged-by}
-use Rattle.kernel_model.proofs.Laws.Answers.{IsAnswered, refused, gets, answer-cases, answer-tells, accepted-no_object, accepted-already, accepted-invalid, purge-none}
-use Rattle.kernel_model.proofs.Laws.Lists.{IsSound}
+use Rattle.kernel_model.proofs.Laws.Answers.{refused, gets, answer-cases, answer-tells, accepted-no_object, accepted-already, accepted-invalid, purge-none}
 use Rattle.kernel_model.proofs.Laws.Tokens.{Stands, at_call, IsPlain, plain_sound, refused_plain, map_sound, attach_sound, setting_sound, purge_sound, and_false, wish_none, set_none}
 
 -- the task of a thread that makes a task's call is declared

@@ -1,7 +1,7 @@
 -- An entry that says nothing of a thing leaves it, and an entry that says nothing at all leaves everything.
 use Rattle.std.proofs.Common.{◌≡◌, ℕ, ◌+◌, ◌-◌, List, [], ◌∷◌, length, Option, Some, None, refl, sym, ap, ap₂, ◌∙◌, Bool, true, false, not, ◌&&◌, ◌||◌, cond, find, filter, count_by, if◌then◌else◌, nat_lt}
-use Rattle.std.specs.Option.{unwrap_or, option_map_or}
-use Rattle.std.specs.Prelude.{option_map, option_and_then, is_some, fold}
+use Rattle.std.specs.Option.{unwrap_or}
+use Rattle.std.specs.Prelude.{option_map, fold}
 use Rattle.kern_ids.specs.declared.entries.Entry.{Entry}
 use Rattle.kern_ids.specs.declared.ids.PageId.{PageId}
 use Rattle.kern_ids.specs.declared.calls.Queue.{Queue}
@@ -11,18 +11,18 @@ use Rattle.kernel_model.specs.System.{System}
 use Rattle.kernel_model.specs.Newest.{newest}
 use Rattle.kernel_model.specs.Events.{is_end, is_by, accepted, is_exit_call, killed_by, write_covers, read_covers}
 use Rattle.kernel_model.specs.Mapping.{live, maps, said_maps, says_maps, owner, mapped, unmaps, tasks_of, next_live, next_said}
-use Rattle.kernel_model.specs.State.{state, says_state, is_empty}
-use Rattle.kernel_model.specs.Contents.{byte, next_byte, empties, empties_from, is_ask_empty}
-use Rattle.kernel_model.specs.Pages.{placed, place, place_given, next_placed, active_pages, inactive_pages, stored_pages, is_active, is_inactive, is_stored, free, entered, next_entered, left, touched_since, says_touched, written, says_written, pages_of, is_deactivation, touches_from, is_out}
-use Rattle.kernel_model.specs.Groups.{standing, says_standing, volatile, is_volatile_state, stands_in, same_queue, first, objects_of, is_lifo}
+use Rattle.kernel_model.specs.State.{state, is_empty}
+use Rattle.kernel_model.specs.Contents.{byte, next_byte, empties}
+use Rattle.kernel_model.specs.Pages.{placed, place, place_given, next_placed, is_active, is_inactive, is_stored, free, entered, next_entered, left, touched_since, says_touched, written, says_written, pages_of, is_deactivation, touches_from}
+use Rattle.kernel_model.specs.Groups.{standing, says_standing, volatile, is_volatile_state, stands_in, first, objects_of, is_lifo}
 use Rattle.kernel_model.specs.Deadlines.{deadlines, changed, after_unmappings, without_first, Deadlines}
-use Rattle.kernel_model.specs.Counted.{counts, count_of, owned_by, is_resident, is_nonvolatile_state}
-use Rattle.kernel_model.specs.Bands.{wish, sets_band, active, active_call, sets_active, limits, limits_call, placing, says_placing, changes, band, of_task, ticks, restarts, is_tick_call, counts_for_ageing, aged_place}
+use Rattle.kernel_model.specs.Counted.{counts, count_of, owned_by, is_nonvolatile_state}
+use Rattle.kernel_model.specs.Bands.{wish, sets_band, active, active_call, sets_active, limits, limits_call, placing, says_placing, band, ticks, restarts, is_tick_call, counts_for_ageing}
 use Rattle.kernel_model.specs.Lists.{least}
 use Rattle.kernel_model.specs.Laws.Kinds.{is_quiet}
 use Rattle.kernel_model.specs.Laws.Unchanged.{Unchanged}
 use Rattle.kernel_model.proofs.Laws.Agree.{find-agree, any-agree, filter-agree, count_by-agree, least-agree}
-use Rattle.kernel_model.proofs.Laws.Mapping.{live-more, maps-more, said_maps-more, unmaps-no}
+use Rattle.kernel_model.proofs.Laws.Mapping.{live-more, said_maps-more}
 use Rattle.kernel_model.proofs.Laws.State.{state-kept}
 use Rattle.kernel_model.proofs.Laws.Contents.{byte-more}
 use Rattle.kernel_model.proofs.Laws.Pages.{placed-more, touched_since-more, written-more, entered-more, free-is, left-is}

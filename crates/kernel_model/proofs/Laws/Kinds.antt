@@ -1,5 +1,5 @@
 -- What each kind of entry makes of each definition that it changes.
-use Rattle.std.proofs.Common.{◌≡◌, ℕ, suc, ◌+◌, ◌-◌, List, [], ◌∷◌, length, Option, Some, None, refl, sym, ap, ap₂, ◌∙◌, Bool, true, false, not, ◌&&◌, ◌||◌, nat_eq, nat_le, if◌then◌else◌, arith}
+use Rattle.std.proofs.Common.{◌≡◌, ℕ, suc, ◌+◌, ◌-◌, List, ◌∷◌, length, Option, Some, None, refl, ap₂, ◌∙◌, Bool, true, false, not, ◌&&◌, ◌||◌, nat_eq, nat_le, if◌then◌else◌, arith}
 use Rattle.std.specs.Option.{unwrap_or, option_map_or}
 use Rattle.std.specs.Prelude.{option_map, option_and_then, is_some, position, slice_get}
 use Rattle.kern_ids.specs.declared.entries.Entry.{Entry}
@@ -14,25 +14,23 @@ use Rattle.kern_ids.specs.declared.replies.Cause.{Cause}
 use Rattle.kern_ids.specs.StateWord.{decoded}
 use Rattle.kernel_model.specs.declared.place.Place.{Place}
 use Rattle.kernel_model.specs.declared.place.Place.TheVariants.{Absent, Active}
-use Rattle.kernel_model.specs.declared.place.Placed.{Placed}
 use Rattle.kernel_model.specs.declared.place.Standing.{Standing}
 use Rattle.kernel_model.specs.System.{System}
-use Rattle.kernel_model.specs.Newest.{newest}
-use Rattle.kernel_model.specs.Events.{is_end, is_by, reaches_page, is_exit_call, accepted, killed_by, is_map, purged_by, asked}
+use Rattle.kernel_model.specs.Events.{is_by, reaches_page, accepted, is_map, purged_by, asked}
 use Rattle.kernel_model.specs.Mapping.{live, maps, said_maps, unmaps, next_live, next_said}
 use Rattle.kernel_model.specs.State.{state, state_asked, is_empty, next_state}
 use Rattle.kernel_model.specs.Contents.{byte, next_byte, is_ask_empty, empties}
-use Rattle.kernel_model.specs.Pages.{placed, place, next_placed, moved_to, same_page, is_out, entered, next_entered, touched_since, written, is_deactivation, touches, move_of}
+use Rattle.kernel_model.specs.Pages.{placed, place, next_placed, moved_to, same_page, is_out, entered, next_entered, touched_since, written, touches, move_of}
 use Rattle.kernel_model.specs.Lists.{some_if}
 use Rattle.kern_ids.specs.declared.replies.Move.TheVariants.{Deactivated}
 use Rattle.kernel_model.proofs.Laws.Kept.{live-kept, said_maps-kept}
 use Rattle.kernel_model.proofs.Laws.Mapping.{unmaps-no}
-use Rattle.kernel_model.specs.Groups.{standing, next_standing, standing_asked}
-use Rattle.kernel_model.specs.Deadlines.{deadlines, changed, after_set, after_ripe, ripe_of, ripe_queue, after_unmappings, without_first, set_by}
-use Rattle.kernel_model.specs.Bands.{wish, active, limits, Limits, placing, Placing, ticks, differs, active_call, sets_active}
+use Rattle.kernel_model.specs.Groups.{standing, standing_asked}
+use Rattle.kernel_model.specs.Deadlines.{deadlines, changed, after_set, after_ripe, ripe_queue, after_unmappings, without_first, set_by}
+use Rattle.kernel_model.specs.Bands.{wish, active, limits, placing, Placing, ticks, differs, active_call, sets_active}
 use Rattle.kernel_model.specs.Pages.{left}
-use Rattle.kernel_model.specs.Laws.Kinds.{runs_for, map_entry, attach_entry, unmap_entry, write_entry, read_entry, set_entry, active_entry, exit_entry, forced_entry, purge_entry, scan_purge_entry, moved_entry, tick_entry, killed_entry, band_entry, limits_entry}
-use Rattle.kernel_model.proofs.Laws.Mapping.{live-more, maps-more, said_maps-more}
+use Rattle.kernel_model.specs.Laws.Kinds.{runs_for, map_entry, attach_entry, unmap_entry, write_entry, set_entry, active_entry, exit_entry, forced_entry, purge_entry, scan_purge_entry, moved_entry, tick_entry, killed_entry, band_entry, limits_entry}
+use Rattle.kernel_model.proofs.Laws.Mapping.{live-more, said_maps-more}
 use Rattle.kernel_model.proofs.Laws.State.{state-more}
 use Rattle.kernel_model.proofs.Laws.Contents.{byte-more}
 use Rattle.kernel_model.proofs.Laws.Pages.{placed-more, touched_since-more, written-more, entered-more}
@@ -48,7 +46,6 @@ said_if false x was = refl
 said_given : {A B : Type 0} (b : Bool) (f : B → A) (x : B) (was : A) → unwrap_or (option_map f (if b then Some x else None)) was ≡ (if b then f x else was)
 said_given true f x was = refl
 said_given false f x was = refl
-
 
 or-none : (b l : Bool) → (not (b || false) && l) ≡ (not b && l)
 or-none true l = refl

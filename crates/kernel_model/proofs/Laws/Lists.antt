@@ -1,12 +1,12 @@
 -- Rising lists of deadlines, and what is done to them.
-use Rattle.std.proofs.Common.{◌≡◌, ℕ, suc, ◌+◌, ◌-◌, ◌<◌, ◌≤◌, List, [], ◌∷◌, ◌++◌, length, refl, sym, ap, ap₂, ◌∙◌, subst, Bool, true, false, not, cond, ◌&&◌, ◌||◌, count_by, nat_eq, nat_le, if◌then◌else◌, inl, inr, ◌⊎◌, arith, zero-le, length-append}
+use Rattle.std.proofs.Common.{◌≡◌, ℕ, ◌+◌, ◌-◌, ◌≤◌, List, [], ◌∷◌, ◌++◌, length, refl, sym, ap, ◌∙◌, subst, Bool, true, false, count_by, nat_eq, nat_le, if◌then◌else◌, inl, inr, ◌⊎◌, arith, length-append}
 use Rattle.std.specs.Prelude.{drop}
-use Rattle.std.proofs.lemmas.Bool.{false≢true, true≢false, cases_lt}
+use Rattle.std.proofs.lemmas.Bool.{false≢true, true≢false}
 use Rattle.std.proofs.lemmas.Bool.Decides.{nat_tests}
 use Rattle.std.proofs.lemmas.List.Sums.{sum_by-append}
 use Rattle.kern_ids.specs.declared.calls.Queue.{Queue}
 use Rattle.kern_ids.specs.declared.calls.Queue.TheVariants.{Obsolete, Lifo, Fifo}
-use Rattle.kernel_model.specs.Deadlines.{Deadlines, of_queue, with_queue, without_first, without_last, put_deadline, first_into, begins_ripe, ripe_of, after_ripe}
+use Rattle.kernel_model.specs.Deadlines.{Deadlines, of_queue, with_queue, without_first, without_last, put_deadline, first_into, begins_ripe}
 use Rattle.kernel_model.specs.Groups.{same_queue}
 use Rattle.kernel_model.specs.Lists.{but_last}
 use Rattle.kernel_model.specs.Laws.Order.{Has}

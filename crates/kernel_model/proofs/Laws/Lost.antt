@@ -2,7 +2,7 @@
 use Rattle.std.proofs.Common.{◌≡◌, ℕ, List, [], ◌∷◌, Option, Some, None, refl, sym, ap, ◌∙◌, Bool, true, false, not, ◌&&◌, ◌||◌, nat_eq, if◌then◌else◌, inl, inr}
 use Rattle.std.specs.Prelude.{◌↔◌, option_map, is_some}
 use Rattle.std.specs.Option.{unwrap_or, option_map_or}
-use Rattle.std.proofs.lemmas.Bool.{false≢true, true≢false}
+use Rattle.std.proofs.lemmas.Bool.{false≢true}
 use Rattle.std.proofs.lemmas.Bool.Decides.{eqb_tells}
 use Rattle.kern_ids.specs.declared.entries.Entry.{Entry}
 use Rattle.kern_ids.specs.declared.calls.Call.{Call}
@@ -11,19 +11,18 @@ use Rattle.kern_ids.specs.declared.calls.State.{State}
 use Rattle.kern_ids.specs.declared.calls.State.TheVariants.{Nonvolatile, Volatile, Empty}
 use Rattle.kern_ids.specs.declared.calls.Wish.{Wish}
 use Rattle.kern_ids.specs.declared.calls.Wish.TheVariants.{Nonvolatile as ask_nonvolatile, Volatile as ask_volatile, Empty as ask_empty}
-use Rattle.kern_ids.specs.declared.replies.Refusal.{Refusal}
 use Rattle.kern_ids.specs.declared.replies.Reply.{Reply}
-use Rattle.kern_ids.specs.declared.replies.Reply.TheVariants.{Old, Refused}
+use Rattle.kern_ids.specs.declared.replies.Reply.TheVariants.{Old}
 use Rattle.kernel_model.specs.System.{System}
 use Rattle.kernel_model.specs.Newest.{newest}
-use Rattle.kernel_model.specs.Events.{is_map, is_purge, asked, accepted, is_reply, wish_call, written_byte}
+use Rattle.kernel_model.specs.Events.{is_map, is_purge, asked, is_reply, wish_call}
 use Rattle.kernel_model.specs.State.{state, state_asked, is_empty}
-use Rattle.kernel_model.specs.Contents.{byte, empties, is_ask_empty}
+use Rattle.kernel_model.specs.Contents.{is_ask_empty}
 use Rattle.kernel_model.specs.Answers.{answer}
 use Rattle.kernel_model.specs.Histories.{IsLegal}
 use Rattle.kernel_model.specs.Lists.{some_if}
-use Rattle.kernel_model.specs.Laws.Legal.{asks_loss, decides, lost, emptied_since}
-use Rattle.kernel_model.proofs.Laws.Answers.{IsAnswered, refused, gets, answer-cases}
+use Rattle.kernel_model.specs.Laws.Legal.{asks_loss, lost, emptied_since}
+use Rattle.kernel_model.proofs.Laws.Answers.{refused, gets, answer-cases}
 
 -- the bytes are lost exactly where the object is EMPTY
 asked_empty : (s : State) → is_empty (if is_empty s then Empty else Volatile) ≡ is_empty s

@@ -1,6 +1,6 @@
 -- Lists that keep exactly the elements with a test in rising order: their first is the least, and what an entry makes of them.
-use Rattle.std.proofs.Common.{◌≡◌, ℕ, suc, ◌+◌, ◌<◌, List, [], ◌∷◌, ◌++◌, Option, Some, None, refl, sym, ap, ap₂, ◌∙◌, subst, Bool, true, false, not, cond, ◌&&◌, ◌||◌, find, filter, if◌then◌else◌, inl, inr, ◌⊎◌}
-use Rattle.std.specs.Prelude.{drop, slice_get}
+use Rattle.std.proofs.Common.{◌≡◌, List, [], ◌∷◌, ◌++◌, Some, None, refl, sym, ap, ap₂, ◌∙◌, subst, Bool, true, false, not, ◌&&◌, ◌||◌, find, filter, inl, inr, ◌⊎◌}
+use Rattle.std.specs.Prelude.{slice_get}
 use Rattle.std.specs.List.{list_any}
 use Rattle.std.proofs.lemmas.Bool.{false≢true, true≢false}
 use Rattle.kernel_model.specs.Lists.{least, put, in_order}
@@ -228,10 +228,13 @@ rising-put : {A : Type 0} (less : A → A → Bool) (x : A) (ys : List A) → ((
 rising-put less x [] trans total r = ((λ y m. absurd m), tt)
 rising-put less x (y ∷ ys) trans total r = elim (cases_bool (less x y)) [
   | inl t ↦ rw t ((λ z m. elim m [ inl e ↦ ap (less x) (sym e) ∙ t | inr n ↦ trans x y z t (r.0 z n) ]), r)
-  | inr f ↦ rw f ((λ z m. elim (put-has less x ys z m) [
+  | inr f ↦ rw f (
+    (λ z m. elim (put-has less x ys z m) [
       | inl e ↦ elim (total y (inl refl)) [ inl t ↦ absurd (true≢false (sym t ∙ f)) | inr t ↦ ap (less y) (sym e) ∙ t ]
       | inr n ↦ r.0 z n
-    ]), rising-put less x ys trans (λ z m. total z (inr m)) r.1)
+    ]),
+    rising-put less x ys trans (λ z m. total z (inr m)) r.1,
+  )
 ]
 
 pub rising-in_order : {A : Type 0} (less : A → A → Bool) (xs : List A) → ((a b c : A) → less a b ≡ true → less b c ≡ true → less a c ≡ true) → ((x y : A) → Has xs x → Has xs y → (x ≡ y → ⊥) → (less x y ≡ true) ⊎ (less y x ≡ true)) → Distinct xs → Rising less (in_order less xs)

@@ -1,5 +1,5 @@
 -- The stamps of two tasks differ in every legal history, and so who is killed for pressure is the one least task.
-use Rattle.std.proofs.Common.{◌≡◌, ℕ, suc, ◌+◌, ◌<◌, ◌≤◌, List, [], ◌∷◌, length, get_or, Option, Some, None, refl, sym, ap, ap₂, ◌∙◌, subst, Bool, true, false, not, ◌&&◌, ◌||◌, filter, find, nat_eq, nat_le, nat_lt, if◌then◌else◌, inl, inr, ◌⊎◌, arith, zero-le}
+use Rattle.std.proofs.Common.{◌≡◌, ℕ, suc, ◌+◌, ◌<◌, ◌≤◌, List, [], ◌∷◌, length, get_or, Option, Some, None, refl, sym, ap, ap₂, ◌∙◌, Bool, true, false, not, ◌&&◌, ◌||◌, filter, find, nat_eq, nat_le, nat_lt, if◌then◌else◌, inl, inr, ◌⊎◌, arith, zero-le}
 use Rattle.std.specs.Option.{option_map_or, unwrap_or}
 use Rattle.std.specs.Prelude.{option_map, is_some, position}
 use Rattle.std.specs.List.{list_any}
@@ -16,20 +16,20 @@ use Rattle.kern_ids.specs.declared.replies.Reply.{Reply}
 use Rattle.kern_ids.specs.declared.replies.Reply.TheVariants.{Aged, Killed, Quiet, NoVictim, Refused}
 use Rattle.kernel_model.specs.System.{System}
 use Rattle.kernel_model.specs.Newest.{newest}
-use Rattle.kernel_model.specs.Events.{task_of, is_reply, is_by}
+use Rattle.kernel_model.specs.Events.{task_of, is_reply}
 use Rattle.kernel_model.specs.Mapping.{tasks_of}
 use Rattle.kernel_model.specs.Pages.{free}
 use Rattle.kernel_model.specs.Answers.{answer}
-use Rattle.kernel_model.specs.Bands.{band, bstamp, placing, Placing, says_placing, sets_band, changes, wish, differs, active, aged_place, aged_tasks, is_tick_call}
+use Rattle.kernel_model.specs.Bands.{band, bstamp, placing, Placing, sets_band, changes, wish, differs, active, aged_place, aged_tasks, is_tick_call}
 use Rattle.kernel_model.specs.Histories.{IsLegal}
 use Rattle.kernel_model.specs.Lists.{least, pair_lt, some_if}
 use Rattle.kernel_model.specs.Victims.{victim, killed_for, least_task, over_fatal, over_soft, is_eligible, band_lt}
 use Rattle.kernel_model.specs.Laws.Order.{Has}
 use Rattle.kernel_model.specs.Laws.Kinds.{tells}
-use Rattle.kernel_model.specs.Laws.Legal.{IsPressed, Precedes}
-use Rattle.kernel_model.proofs.Laws.Order.{find-has, find-none, filter-has, has-filter, any-has, any-none}
+use Rattle.kernel_model.specs.Laws.Legal.{IsPressed}
+use Rattle.kernel_model.proofs.Laws.Order.{find-has, filter-has, has-filter, any-has, any-none}
 use Rattle.kernel_model.proofs.Laws.Queues.{placing-bound, range-has}
-use Rattle.kernel_model.proofs.Laws.Answers.{IsAnswered, refused, gets, answer-cases, answer-tells, legal-tells}
+use Rattle.kernel_model.proofs.Laws.Answers.{refused, gets, answer-cases, answer-tells, legal-tells}
 
 cases_bool : (b : Bool) → (b ≡ true) ⊎ (b ≡ false)
 cases_bool true = inl refl
@@ -176,10 +176,14 @@ minimal less asym trans x [] = (x, inl refl, λ y h. elim h [ inl e ↦ ap (λ z
 minimal {A} less asym trans x (z ∷ zs) =
     let q = minimal less asym trans z zs in
     elim (cases_bool (less x q.0)) [
-      | inl lower ↦ (x, inl refl, λ y h. elim h [
+      | inl lower ↦ (
+        x,
+        inl refl,
+        λ y h. elim h [
           | inl e ↦ ap (λ w. less w x) (sym e) ∙ itself less asym x
           | inr there ↦ elim (cases_bool (less y x)) [ inl t ↦ absurd (true≢false (sym (trans y x q.0 t lower) ∙ q.2 y there)) | inr f ↦ f ]
-        ])
+        ],
+      )
       | inr not_lower ↦ (q.0, inr q.1, λ y h. elim h [ inl e ↦ ap (λ w. less w q.0) (sym e) ∙ not_lower | inr there ↦ q.2 y there ])
     ]
 

@@ -1,19 +1,16 @@
 -- A purge of a legal history: which object it takes, and what it leaves.
-use Rattle.std.proofs.Common.{◌≡◌, ℕ, ◌+◌, ◌<◌, ◌≤◌, List, [], ◌∷◌, ◌++◌, length, map, Option, Some, None, refl, sym, ap, ap₂, ◌∙◌, subst, Bool, true, false, not, ◌&&◌, ◌||◌, filter, nat_eq, nat_le, nat_lt, if◌then◌else◌, inl, inr, ◌⊎◌}
-use Rattle.std.specs.Option.{option_map_or, unwrap_or}
+use Rattle.std.proofs.Common.{◌≡◌, ℕ, List, [], ◌∷◌, ◌++◌, Option, Some, None, refl, sym, ap, ◌∙◌, subst, Bool, true, false, not, ◌&&◌, filter, nat_eq, nat_le, nat_lt, if◌then◌else◌, inl, inr}
+use Rattle.std.specs.Option.{option_map_or}
 use Rattle.std.specs.Prelude.{option_and_then}
-use Rattle.std.specs.List.{range_with_len, flat_map}
-use Rattle.std.proofs.lemmas.Bool.{false≢true, true≢false}
+use Rattle.std.proofs.lemmas.Bool.{false≢true}
 use Rattle.kern_ids.specs.declared.entries.Entry.{Entry}
 use Rattle.kern_ids.specs.declared.ids.PageId.{PageId}
 use Rattle.kern_ids.specs.declared.calls.Call.{Call}
 use Rattle.kern_ids.specs.declared.calls.Call.TheVariants.{PurgeOne, Forced, Scan}
 use Rattle.kern_ids.specs.declared.calls.Queue.{Queue}
 use Rattle.kern_ids.specs.declared.calls.Queue.TheVariants.{Obsolete, Lifo, Fifo}
-use Rattle.kern_ids.specs.declared.replies.Move.{Move}
 use Rattle.kern_ids.specs.declared.replies.Move.TheVariants.{Deactivated, Reactivated, Freed, Compressed, Requeued}
 use Rattle.kern_ids.specs.declared.replies.Refusal.{Refusal}
-use Rattle.kern_ids.specs.declared.replies.Reply.{Reply}
 use Rattle.kern_ids.specs.declared.replies.Reply.TheVariants.{Purged, Refused, Moved, Idle, Enough, Nothing}
 use Rattle.kernel_model.specs.System.{System}
 use Rattle.kernel_model.specs.Answers.{answer}
@@ -23,15 +20,12 @@ use Rattle.kernel_model.specs.Deadlines.{ripe_queue}
 use Rattle.kernel_model.specs.Groups.{volatile, standing, stands_in, same_queue, first, objects_of}
 use Rattle.kernel_model.specs.Histories.{IsLegal}
 use Rattle.kernel_model.specs.Lists.{first_some}
-use Rattle.kernel_model.specs.Mapping.{unmaps}
-use Rattle.kernel_model.specs.Pages.{place, placed, free, inactive_pages, stored_pages, touched_since, written}
+use Rattle.kernel_model.specs.Pages.{placed, free, inactive_pages, stored_pages, touched_since, written}
 use Rattle.kernel_model.specs.Scan.{scan, scan_rest, scan_inactive, first_active, first_inactive}
-use Rattle.kernel_model.specs.State.{state}
 use Rattle.kernel_model.specs.Laws.Order.{Has}
-use Rattle.kernel_model.specs.Laws.Queues.{nearer}
 use Rattle.kernel_model.specs.Laws.Kinds.{tells, is_purging_call}
-use Rattle.kernel_model.proofs.Laws.Order.{find-has, filter-has, has-append_cases}
-use Rattle.kernel_model.proofs.Laws.Answers.{IsAnswered, refused, gets, answer-cases, answer-tells}
+use Rattle.kernel_model.proofs.Laws.Order.{find-has, filter-has}
+use Rattle.kernel_model.proofs.Laws.Answers.{refused, gets, answer-cases, answer-tells}
 use Rattle.kernel_model.proofs.Laws.Mapping.{unmaps-no}
 use Rattle.kernel_model.proofs.Laws.Kept.{byte-kept, placed-kept}
 

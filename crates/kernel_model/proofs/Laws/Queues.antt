@@ -1,8 +1,8 @@
 -- The ordered lists of pages, of volatile objects and of tasks, and what an entry makes of them.
-use Rattle.std.proofs.Common.{◌≡◌, ℕ, zero, suc, ◌+◌, ◌<◌, ◌≤◌, List, [], ◌∷◌, ◌++◌, length, map, Option, Some, None, refl, sym, ap, ap₂, ◌∙◌, subst, Bool, true, false, not, cond, ◌&&◌, ◌||◌, find, filter, nat_eq, nat_lt, if◌then◌else◌, inl, inr, ◌⊎◌, arith, zero-le}
-use Rattle.std.specs.Prelude.{drop, slice_get, option_map, option_and_then, is_some}
+use Rattle.std.proofs.Common.{◌≡◌, ℕ, zero, suc, ◌+◌, ◌<◌, ◌≤◌, List, [], ◌∷◌, ◌++◌, length, Option, Some, None, refl, sym, ap, ap₂, ◌∙◌, subst, Bool, true, false, not, ◌&&◌, ◌||◌, filter, nat_eq, nat_lt, if◌then◌else◌, inl, inr, ◌⊎◌, arith, zero-le}
+use Rattle.std.specs.Prelude.{slice_get, option_map, option_and_then, is_some}
 use Rattle.std.specs.Option.{unwrap_or}
-use Rattle.std.specs.List.{list_any, range_with_len, flat_map}
+use Rattle.std.specs.List.{range_with_len}
 use Rattle.std.proofs.lemmas.Bool.{false≢true, true≢false}
 use Rattle.std.proofs.lemmas.Bool.Decides.{eqb_tells, nat_tests}
 use Rattle.kern_ids.specs.declared.entries.Entry.{Entry}
@@ -12,10 +12,9 @@ use Rattle.kern_ids.specs.declared.calls.Wish.{Wish}
 use Rattle.kern_ids.specs.declared.calls.State.{State}
 use Rattle.kernel_model.specs.declared.place.Place.{Place}
 use Rattle.kernel_model.specs.declared.place.Place.TheVariants.{Absent}
-use Rattle.kernel_model.specs.declared.place.Placed.{Placed}
 use Rattle.kernel_model.specs.declared.place.Standing.{Standing}
 use Rattle.kernel_model.specs.System.{System}
-use Rattle.kernel_model.specs.Lists.{least, pair_lt}
+use Rattle.kernel_model.specs.Lists.{pair_lt}
 use Rattle.kernel_model.specs.Mapping.{live, tasks_of, mapped}
 use Rattle.kernel_model.specs.Newest.{newest}
 use Rattle.kernel_model.specs.Events.{is_map, is_purge, asked}
@@ -23,14 +22,13 @@ use Rattle.kernel_model.specs.State.{state, state_asked}
 use Rattle.kern_ids.specs.declared.calls.Wish.TheVariants.{Nonvolatile as ask_nonvolatile, Volatile as ask_volatile, Empty as ask_empty}
 use Rattle.kern_ids.specs.declared.calls.State.TheVariants.{Nonvolatile, Empty}
 use Rattle.kernel_model.proofs.Laws.Frames.{same_page-is}
-use Rattle.kernel_model.specs.Pages.{place, placed, stamp, pages_of, pages_of_size, pages_in, same_page, is_out, is_active, is_inactive}
+use Rattle.kernel_model.specs.Pages.{place, placed, stamp, pages_of, same_page, is_out, is_active, is_inactive}
 use Rattle.kernel_model.specs.Groups.{standing, stands_in, objects_of, is_lifo, first, standing_asked, is_volatile_state, volatile, same_queue}
 use Rattle.kernel_model.specs.Bands.{band, bstamp, placing, Placing, sets_band, changes, wish, aged_place}
 use Rattle.kernel_model.specs.Scan.{stamp_lt, first_active, first_inactive}
-use Rattle.kernel_model.specs.Laws.Order.{Has, Rising, Keeps, Distinct}
+use Rattle.kernel_model.specs.Laws.Order.{Has, Rising, Distinct}
 use Rattle.kernel_model.specs.Laws.Queues.{KeepsPages, KeepsGroup, KeepsBand, nearer, bstamp_lt}
-use Rattle.kernel_model.specs.Laws.Frames.{is_page}
-use Rattle.kernel_model.proofs.Laws.Order.{least-keeps, keeps-append, keeps-filter, keeps-front, keeps-drop, keeps-renew, keeps-renew_front, rising-agree, has-append_left, has-append_right, has-filter, filter-has}
+use Rattle.kernel_model.proofs.Laws.Order.{least-keeps, keeps-append, keeps-filter, keeps-drop, keeps-renew, keeps-renew_front, rising-agree}
 use Rattle.kernel_model.proofs.Literal.{placed-number}
 
 cases_bool : (b : Bool) → (b ≡ true) ⊎ (b ≡ false)

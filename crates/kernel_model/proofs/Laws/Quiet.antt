@@ -1,5 +1,5 @@
 -- What an entry that changes nothing says of each thing: nothing.
-use Rattle.std.proofs.Common.{◌≡◌, ℕ, List, [], ◌∷◌, Option, Some, None, refl, Bool, true, false, not, ◌&&◌, if◌then◌else◌}
+use Rattle.std.proofs.Common.{◌≡◌, ℕ, Option, None, refl, Bool, true, false, not, ◌&&◌, if◌then◌else◌}
 use Rattle.std.proofs.lemmas.Bool.{false≢true}
 use Rattle.kern_ids.specs.declared.entries.Entry.{Entry}
 use Rattle.kern_ids.specs.declared.ids.PageId.{PageId}
@@ -7,8 +7,7 @@ use Rattle.kern_ids.specs.declared.calls.Call.{Call}
 use Rattle.kern_ids.specs.declared.calls.Call.TheVariants.{Map, Unmap, Write, Read, SetState, Active, Exit, SetBand, SetLimits, Attach, Tick}
 use Rattle.kern_ids.specs.declared.replies.Reply.{Reply}
 use Rattle.kern_ids.specs.declared.replies.Reply.TheVariants.{Purged, Moved, Aged, Killed}
-use Rattle.kernel_model.specs.System.{System}
-use Rattle.kernel_model.specs.Events.{is_reply, accepted, is_map_call, is_attach_call, is_unmap_call, purged_by, wish_call, byte_call, write_covers, read_covers, is_exit_call, killed_by}
+use Rattle.kernel_model.specs.Events.{accepted, is_map_call, is_attach_call, is_unmap_call, purged_by, wish_call, byte_call, write_covers, read_covers, is_exit_call, killed_by}
 use Rattle.kernel_model.specs.Pages.{move_of, is_deactivation}
 use Rattle.kernel_model.specs.Bands.{band_call, active_call, limits_call, aged_tasks, is_tick_call}
 use Rattle.kernel_model.specs.Deadlines.{set_by}

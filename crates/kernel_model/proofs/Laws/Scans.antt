@@ -1,13 +1,12 @@
 -- What a move of the scan tells of its page.
-use Rattle.std.proofs.Common.{◌≡◌, ℕ, ◌<◌, List, Option, Some, None, refl, sym, ap, ◌∙◌, Bool, true, false, not, ◌||◌, find, filter, if◌then◌else◌, nat_lt, nat_le, inl, inr, ◌⊎◌, arith}
+use Rattle.std.proofs.Common.{◌≡◌, ℕ, ◌<◌, List, Option, Some, None, refl, sym, ap, ◌∙◌, Bool, true, false, not, ◌||◌, filter, if◌then◌else◌, nat_lt, nat_le, arith}
 use Rattle.std.specs.Option.{option_map_or}
 use Rattle.std.proofs.lemmas.Bool.Decides.{nat_tests}
-use Rattle.std.proofs.lemmas.Bool.{false≢true, true≢false}
+use Rattle.std.proofs.lemmas.Bool.{false≢true}
 use Rattle.kern_ids.specs.declared.entries.Entry.{Entry}
 use Rattle.kern_ids.specs.declared.ids.PageId.{PageId}
 use Rattle.kern_ids.specs.declared.replies.Move.{Move}
 use Rattle.kern_ids.specs.declared.replies.Move.TheVariants.{Deactivated, Reactivated, Freed, Compressed, Requeued}
-use Rattle.kern_ids.specs.declared.replies.Reply.{Reply}
 use Rattle.kern_ids.specs.declared.replies.Reply.TheVariants.{Enough, Moved, Purged, Idle}
 use Rattle.kernel_model.specs.System.{System}
 use Rattle.kernel_model.specs.Pages.{place, is_active, is_inactive, pages_of, free, inactive_pages, stored_pages, touched_since, written}

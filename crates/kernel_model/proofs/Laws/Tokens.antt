@@ -1,13 +1,13 @@
 -- In every legal history each list of deadlines is rising, and as long as its queue has volatile objects.
-use Rattle.std.proofs.Common.{◌≡◌, ℕ, suc, ◌+◌, ◌-◌, ◌<◌, ◌≤◌, List, [], ◌∷◌, ◌++◌, length, Option, Some, None, refl, sym, ap, ap₂, ◌∙◌, subst, Bool, true, false, not, cond, ◌&&◌, ◌||◌, filter, count_by, nat_eq, nat_lt, if◌then◌else◌, inl, inr, ◌⊎◌, arith, zero-le}
-use Rattle.std.specs.Prelude.{drop, fold, is_some, is_none, option_map, option_and_then, IsTrue, slice_get}
-use Rattle.std.specs.Option.{option_map_or, unwrap_or}
-use Rattle.std.specs.List.{range_with_len, list_any}
-use Rattle.std.proofs.lemmas.Bool.{false≢true, true≢false, cases_lt}
+use Rattle.std.proofs.Common.{◌≡◌, ℕ, suc, ◌+◌, ◌-◌, ◌<◌, ◌≤◌, List, [], ◌∷◌, length, Option, Some, None, refl, sym, ap, ap₂, ◌∙◌, subst, Bool, true, false, not, ◌&&◌, ◌||◌, filter, count_by, nat_eq, if◌then◌else◌, inl, inr, ◌⊎◌, arith, zero-le}
+use Rattle.std.specs.Prelude.{drop, fold}
+use Rattle.std.specs.Option.{unwrap_or}
+use Rattle.std.specs.List.{list_any}
+use Rattle.std.proofs.lemmas.Bool.{false≢true, true≢false}
 use Rattle.std.proofs.lemmas.Bool.Decides.{eqb_tells, nat_tests}
 use Rattle.kern_ids.specs.declared.entries.Entry.{Entry}
 use Rattle.kern_ids.specs.declared.calls.Call.{Call}
-use Rattle.kern_ids.specs.declared.calls.Call.TheVariants.{Map, Attach, SetState, PurgeOne, Forced, Scan}
+use Rattle.kern_ids.specs.declared.calls.Call.TheVariants.{PurgeOne, Forced, Scan}
 use Rattle.kern_ids.specs.declared.calls.Queue.{Queue}
 use Rattle.kern_ids.specs.declared.calls.Queue.TheVariants.{Obsolete, Lifo, Fifo}
 use Rattle.kern_ids.specs.declared.calls.State.{State}
@@ -15,26 +15,25 @@ use Rattle.kern_ids.specs.declared.calls.State.TheVariants.{Nonvolatile, Volatil
 use Rattle.kern_ids.specs.declared.calls.Wish.{Wish}
 use Rattle.kern_ids.specs.declared.calls.Wish.TheVariants.{Nonvolatile as ask_nonvolatile, Volatile as ask_volatile, Empty as ask_empty}
 use Rattle.kern_ids.specs.declared.replies.Reply.{Reply}
-use Rattle.kern_ids.specs.declared.replies.Reply.TheVariants.{Purged, Mapped, Attached, Old, Refused}
-use Rattle.kernel_model.specs.declared.place.Standing.{Standing}
+use Rattle.kern_ids.specs.declared.replies.Reply.TheVariants.{Purged, Refused}
 use Rattle.kernel_model.specs.System.{System}
-use Rattle.kernel_model.specs.Events.{is_reply, accepted, is_map, is_attach, is_unmap, is_end, is_by, asked, purged_by}
+use Rattle.kernel_model.specs.Events.{accepted, is_map, is_attach, is_unmap, is_end, is_by, asked, purged_by}
 use Rattle.kernel_model.specs.Mapping.{live, maps, mapped, unmaps, tasks_of, next_live, next_said}
 use Rattle.kernel_model.proofs.Laws.Mapping.{live-more, maps-more, unmaps-no, unmaps-is}
 use Rattle.kernel_model.proofs.Laws.Pages.{entered-more}
 use Rattle.kern_ids.specs.declared.replies.Refusal.{Refusal}
 use Rattle.kern_ids.specs.StateWord.{decoded}
-use Rattle.kernel_model.specs.State.{state, state_asked, is_empty}
+use Rattle.kernel_model.specs.State.{state, state_asked}
 use Rattle.kernel_model.specs.Groups.{volatile, standing, standing_asked, is_volatile_state, same_queue, objects_of}
 use Rattle.kernel_model.specs.Pages.{entered, next_entered, is_deactivation, left}
-use Rattle.kernel_model.specs.Deadlines.{Deadlines, deadlines, of_queue, with_queue, with_new, new_deadline, without_first, without_last, first_into, after_set, after_ripe, after_unmappings, set_by, begins_ripe, ripe_of, ripe_queue}
+use Rattle.kernel_model.specs.Deadlines.{Deadlines, deadlines, of_queue, with_new, new_deadline, without_first, without_last, after_set, after_ripe, after_unmappings, set_by, begins_ripe, ripe_queue}
 use Rattle.kernel_model.specs.Laws.Order.{Has}
 use Rattle.kernel_model.specs.Laws.Frames.{bit}
 use Rattle.kernel_model.specs.Laws.Kinds.{set_entry, map_entry, attach_entry}
-use Rattle.kernel_model.specs.Laws.Legal.{Climbs, queue_objects, HasTokens, IsWithout, all_deadlines, TakesRipe, is_ripe_call}
+use Rattle.kernel_model.specs.Laws.Legal.{queue_objects, IsWithout, all_deadlines, TakesRipe, is_ripe_call}
 use Rattle.kernel_model.proofs.Laws.Agree.{count_by-cons, count_by-agree}
 use Rattle.kernel_model.proofs.Laws.Counting.{count_by-once, count_by-both, count_by-range}
-use Rattle.kernel_model.proofs.Laws.Kept.{standing-kept, volatile-kept, maps-kept, mapped-kept, entered-kept, deadlines-kept}
+use Rattle.kernel_model.proofs.Laws.Kept.{standing-kept, maps-kept, mapped-kept, entered-kept, deadlines-kept}
 use Rattle.kernel_model.proofs.Laws.State.{state-kept}
 use Rattle.kernel_model.proofs.Laws.Kinds.{deadlines-unmapped, deadlines-set, deadlines-forced, deadlines-purge, deadlines-scan_purge, state-map, state-set, state-purge, standing-set}
 use Rattle.kernel_model.specs.Choice.{places_for, forced}
@@ -42,8 +41,8 @@ use Rattle.kernel_model.specs.Histories.{IsLegal}
 use Rattle.kernel_model.proofs.Laws.Order.{find-has}
 use Rattle.kernel_model.proofs.Laws.Queues.{has-range}
 use Rattle.kernel_model.proofs.Laws.Bounds.{nat_eq-swap}
-use Rattle.kernel_model.proofs.Laws.Purges.{IsRipeChoice, IsChosen, PurgedBy, one, scan_one, force, purged-by, pick-chosen, forced-chosen, chosen-volatile, chosen-queue}
-use Rattle.kernel_model.proofs.Laws.Lists.{IsSound, sound-count, sound-less_first, sound-less_last, sound-push, sound-move, ripe_first, without_first-times, move-times, with_queue-of, same_queue-is}
+use Rattle.kernel_model.proofs.Laws.Purges.{IsRipeChoice, PurgedBy, one, scan_one, force, purged-by, pick-chosen, forced-chosen, chosen-volatile, chosen-queue}
+use Rattle.kernel_model.proofs.Laws.Lists.{IsSound, sound-count, sound-less_first, sound-less_last, sound-push, sound-move, ripe_first, without_first-times, move-times, same_queue-is}
 
 cases_bool : (b : Bool) → (b ≡ true) ⊎ (b ≡ false)
 cases_bool true = inl refl
@@ -152,10 +151,10 @@ unmapping_sound boot e before s p v t n k =
     subst (λ y. IsSound y (queue_objects boot (e ∷ before)) (entered (e ∷ before))) (sym (deadlines-unmapped boot e before s p))
     (sound-count (after_unmappings boot before e d) (λ q. queue_objects boot before q - count_by (λ o. same_queue (standing before o).queue q) (filter us (objects_of boot))) (queue_objects boot (e ∷ before)) (entered before) (entered (e ∷ before))
     (λ q.
-      let f = count_by-filter us (λ o. same_queue (standing before o).queue q) (objects_of boot) in
-      let b = count_by-both (in_queue boot before q) (λ o. (volatile boot before o && not (unmaps boot before e o)) && same_queue (standing before o).queue q) (λ o. us o && same_queue (standing before o).queue q) (λ o. parts_bit (volatile boot before o) (unmaps boot before e o) (same_queue (standing before o).queue q)) (objects_of boot) in
-      let a = count_by-agree (in_queue boot (e ∷ before) q) (λ o. (volatile boot before o && not (unmaps boot before e o)) && same_queue (standing before o).queue q) (λ o. ap₂ (λ x y. x && same_queue y.queue q) (v o) (t o)) (objects_of boot) in
-      omega (arith, f, b, a))
+    let f = count_by-filter us (λ o. same_queue (standing before o).queue q) (objects_of boot) in
+    let b = count_by-both (in_queue boot before q) (λ o. (volatile boot before o && not (unmaps boot before e o)) && same_queue (standing before o).queue q) (λ o. us o && same_queue (standing before o).queue q) (λ o. parts_bit (volatile boot before o) (unmaps boot before e o) (same_queue (standing before o).queue q)) (objects_of boot) in
+    let a = count_by-agree (in_queue boot (e ∷ before) q) (λ o. (volatile boot before o && not (unmaps boot before e o)) && same_queue (standing before o).queue q) (λ o. ap₂ (λ x y. x && same_queue y.queue q) (v o) (t o)) (objects_of boot) in
+    omega (arith, f, b, a))
     n (fold_sound before (filter us (objects_of boot)) d (queue_objects boot before) (entered before) k))
 
 or_true : (b : Bool) → (b || true) ≡ true
@@ -308,14 +307,14 @@ setting_sound boot before who x word old w d l m k =
     let s : state (e ∷ before) x ≡ state_asked (state before x) w = state-set who x word old w before x d ∙ rw t refl in
     let g : standing (e ∷ before) x ≡ unwrap_or (standing_asked (length before) w) (standing before x) = standing-set who x word old w before x d ∙ rw t refl in
     let apart : (q : Queue) (o : ℕ) → nat_eq x o ≡ false → in_queue boot (e ∷ before) q o ≡ in_queue boot before q o = λ q o f.
-        (let so : state (e ∷ before) o ≡ state before o = state-set who x word old w before o d ∙ rw f refl in
-        let go : standing (e ∷ before) o ≡ standing before o = standing-set who x word old w before o d ∙ rw f refl in
-        rw (so, go, n o) refl) in
+    (let so : state (e ∷ before) o ≡ state before o = state-set who x word old w before o d ∙ rw f refl in
+    let go : standing (e ∷ before) o ≡ standing before o = standing-set who x word old w before o d ∙ rw f refl in
+    rw (so, go, n o) refl) in
     let c : (q : Queue) → queue_objects boot (e ∷ before) q + bit (is_volatile_state (state before x) && same_queue (standing before x).queue q) ≡ queue_objects boot before q + bit (is_volatile_state (state_asked (state before x) w) && same_queue (unwrap_or (standing_asked (length before) w) (standing before x)).queue q) = λ q.
-        (let o = objects-once boot e before x q l (apart q) in
-        let a : in_queue boot before q x ≡ (is_volatile_state (state before x) && same_queue (standing before x).queue q) = set_in boot before x q m in
-        let b : in_queue boot (e ∷ before) q x ≡ (is_volatile_state (state_asked (state before x) w) && same_queue (unwrap_or (standing_asked (length before) w) (standing before x)).queue q) = set_in boot (e ∷ before) x q (n x ∙ m) ∙ ap₂ (λ y z. is_volatile_state y && same_queue z.queue q) s g in
-        rw (a, b) at o) in
+    (let o = objects-once boot e before x q l (apart q) in
+    let a : in_queue boot before q x ≡ (is_volatile_state (state before x) && same_queue (standing before x).queue q) = set_in boot before x q m in
+    let b : in_queue boot (e ∷ before) q x ≡ (is_volatile_state (state_asked (state before x) w) && same_queue (unwrap_or (standing_asked (length before) w) (standing before x)).queue q) = set_in boot (e ∷ before) x q (n x ∙ m) ∙ ap₂ (λ y z. is_volatile_state y && same_queue z.queue q) s g in
+    rw (a, b) at o) in
     let r : entered (e ∷ before) ≡ entered before = entered-kept e before refl in
     subst (λ y. IsSound y (queue_objects boot (e ∷ before)) (entered (e ∷ before))) (sym (deadlines-set boot who x word old w before d))
     (subst (λ y. IsSound (after_set boot before x (state before x) w (deadlines boot before)) (queue_objects boot (e ∷ before)) y) (sym r)
@@ -333,8 +332,8 @@ purged_count boot e before o l v m a p n q =
     let t : nat_eq o o ≡ true = grind (arith, nat_tests) in
     let gone : state (e ∷ before) o ≡ Empty = state-purge e o before o (m o) p (a o) ∙ rw t refl in
     let apart : (x : ℕ) → nat_eq o x ≡ false → in_queue boot (e ∷ before) q x ≡ in_queue boot before q x = λ x f.
-        (let s : state (e ∷ before) x ≡ state before x = state-purge e o before x (m x) p (a x) ∙ rw (nat_eq-swap x o, f) refl in
-        rw (s, n x, standing-kept e before x (rw (a x) refl)) refl) in
+    (let s : state (e ∷ before) x ≡ state before x = state-purge e o before x (m x) p (a x) ∙ rw (nat_eq-swap x o, f) refl in
+    rw (s, n x, standing-kept e before x (rw (a x) refl)) refl) in
     let c = objects-once boot e before o q l apart in
     let was : in_queue boot before q o ≡ same_queue (standing before o).queue q = rw v refl in
     let now : in_queue boot (e ∷ before) q o ≡ false = rw gone (ap (λ b. b && same_queue (standing (e ∷ before) o).queue q) (and_false (mapped boot (e ∷ before) o))) in

@@ -18,13 +18,11 @@ pub fn bytes_more()
     ensures kept { (e : Entry) (before : List Entry) (o b : ℕ) → empties o before e ≡ false → Rattle.kernel_model.specs.Events.written_byte o b e ≡ None → byte (e ∷ before) o b ≡ byte before o b }
     ensures emptied { (e : Entry) (before : List Entry) (o b : ℕ) → empties o before e ≡ true → byte (e ∷ before) o b ≡ 0 }
     ensures write { (who x off : ℕ) (bytes : List ℕ) (before : List Entry) (o b : ℕ) → byte (write_entry who x off bytes ∷ before) o b ≡ (if nat_eq x o && nat_le off b then unwrap_or (slice_get bytes (b - off)) (byte before o b) else byte before o b) }
-{
-}
+{}
 
 /// Which entries empty an object.
 pub fn empties_by_kind()
     ensures map { (who x : ℕ) (before : List Entry) (o : ℕ) → empties o before (map_entry who x) ≡ nat_eq x o }
     ensures set { (who x word : ℕ) (old : State) (wish : Wish) (before : List Entry) (o : ℕ) → decoded word ≡ Some wish → empties o before (set_entry who x word old) ≡ (nat_eq x o && is_ask_empty wish && not (is_empty (state before o))) }
     ensures purge { (e : Entry) (x : ℕ) (before : List Entry) (o : ℕ) → is_map o e ≡ false → purged_by e.reply ≡ Some x → asked o e ≡ None → empties o before e ≡ nat_eq o x }
-{
-}
+{}

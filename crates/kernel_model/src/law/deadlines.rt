@@ -19,8 +19,7 @@ ghost use Rattle.std.specs.Prelude.{List, None, Some, false, if◌then◌else◌
 pub fn deadlines_more()
     ensures one_more { (boot : System) (e : Entry) (before : List Entry) → deadlines boot (e ∷ before) ≡ changed boot before e (deadlines boot before) }
     ensures kept { (boot : System) (e : Entry) (before : List Entry) → (if accepted e then Rattle.kernel_model.specs.Deadlines.set_by e.call else None) ≡ None → Rattle.kernel_model.specs.Events.purged_by e.reply ≡ None → ((o : ℕ) → unmaps boot before e o ≡ false) → deadlines boot (e ∷ before) ≡ deadlines boot before }
-{
-}
+{}
 
 /// The lists of deadlines after an accepted SetState, a purge of each kind, and an unmapping.
 pub fn deadlines_by_kind()
@@ -29,5 +28,4 @@ pub fn deadlines_by_kind()
     ensures purge { (boot : System) (who x : ℕ) (r : Queue) (before : List Entry) → ripe_queue boot before ≡ Some r → deadlines boot (purge_entry who x ∷ before) ≡ after_ripe (left boot before) r (standing before x).queue (deadlines boot before) }
     ensures scan_purge { (boot : System) (who x : ℕ) (r : Queue) (before : List Entry) → ripe_queue boot before ≡ Some r → deadlines boot (scan_purge_entry who x ∷ before) ≡ after_ripe (left boot before) r (standing before x).queue (deadlines boot before) }
     ensures unmapped { (boot : System) (e : Entry) (before : List Entry) → (if accepted e then set_by e.call else None) ≡ None → purged_by e.reply ≡ None → deadlines boot (e ∷ before) ≡ after_unmappings boot before e (deadlines boot before) }
-{
-}
+{}

@@ -24,8 +24,7 @@ pub fn entered_more()
     ensures kept { (e : Entry) (before : List Entry) → is_deactivation e.reply ≡ false → entered (e ∷ before) ≡ entered before }
     ensures deactivated { (who : ℕ) (p : PageId) (before : List Entry) → entered (moved_entry who Deactivated p ∷ before) ≡ entered before + 1 }
     ensures at_most { (past : List Entry) → entered past ≤ length past }
-{
-}
+{}
 
 /// The free frames, and the pages that left.
 pub fn frames_are()
@@ -33,8 +32,7 @@ pub fn frames_are()
     ensures left { (boot : System) (past : List Entry) → left boot past ≡ entered past - inactive_pages boot past }
     ensures free_kept { (boot : System) (e : Entry) (before : List Entry) (places : (p : PageId) → placed boot (e ∷ before) p ≡ placed boot before p) → free boot (e ∷ before) ≡ free boot before }
     ensures left_kept { (boot : System) (e : Entry) (before : List Entry) (places : (p : PageId) → placed boot (e ∷ before) p ≡ placed boot before p) → entered (e ∷ before) ≡ entered before → left boot (e ∷ before) ≡ left boot before }
-{
-}
+{}
 
 /// How many pages are in a place after an entry that changes the place of one page, or of one object's pages.
 pub fn pages_more()
@@ -43,8 +41,7 @@ pub fn pages_more()
     ensures page { (boot : System) (e : Entry) (before : List Entry) (p : PageId) (k : Place → Bool) → is_page boot p ≡ true → ((q : PageId) → same_page p q ≡ false → placed boot (e ∷ before) q ≡ placed boot before q) → count_by (λ q. k (place boot (e ∷ before) q)) (pages_of boot) + bit (k (place boot before p)) ≡ count_by (λ q. k (place boot before q)) (pages_of boot) + bit (k (place boot (e ∷ before) p)) }
     ensures object { (boot : System) (e : Entry) (before : List Entry) (o : ℕ) (k : Place → Bool) → o < length boot.objects → ((q : PageId) → nat_eq o q.obj ≡ false → placed boot (e ∷ before) q ≡ placed boot before q) → count_by (λ q. k (place boot (e ∷ before) q)) (pages_of boot) + pages_at boot before k o ≡ count_by (λ q. k (place boot before q)) (pages_of boot) + pages_at boot (e ∷ before) k o }
     ensures absent { (boot : System) (past : List Entry) (k : Place → Bool) (o : ℕ) → k Absent ≡ false → ((n : ℕ) → place boot past (record { obj = o; page = n }) ≡ Absent) → pages_at boot past k o ≡ 0 }
-{
-}
+{}
 
 /// The pages of a task after an entry that changes one object, or the place of one page.
 pub fn counts_more()
@@ -53,8 +50,7 @@ pub fn counts_more()
     ensures page { (boot : System) (e : Entry) (before : List Entry) (t : ℕ) (k : Place → Bool) (what : State → Bool) (p : PageId) → is_page boot p ≡ true → ((o : ℕ) → owner boot (e ∷ before) o ≡ owner boot before o) → ((o : ℕ) → state (e ∷ before) o ≡ state before o) → ((q : PageId) → same_page p q ≡ false → placed boot (e ∷ before) q ≡ placed boot before q) → count_of boot (e ∷ before) t (λ q. k (place boot (e ∷ before) q)) what + bit (has_share boot before t what p.obj && k (place boot before p)) ≡ count_of boot before t (λ q. k (place boot before q)) what + bit (has_share boot before t what p.obj && k (place boot (e ∷ before) p)) }
     ensures share_kept { (boot : System) (e : Entry) (before : List Entry) (t : ℕ) (k : Place → Bool) (what : State → Bool) (o : ℕ) → owner boot (e ∷ before) o ≡ owner boot before o → state (e ∷ before) o ≡ state before o → ((n : ℕ) → place boot (e ∷ before) (record { obj = o; page = n }) ≡ place boot before (record { obj = o; page = n })) → share_of boot (e ∷ before) t k what o ≡ share_of boot before t k what o }
     ensures kept { (boot : System) (e : Entry) (before : List Entry) (places : (p : PageId) → placed boot (e ∷ before) p ≡ placed boot before p) → (t : ℕ) → ((o : ℕ) → owner boot (e ∷ before) o ≡ owner boot before o) → ((o : ℕ) → state (e ∷ before) o ≡ state before o) → counts boot (e ∷ before) t ≡ counts boot before t }
-{
-}
+{}
 
 /// The parts of the counts of a task.
 pub fn counts_are()
@@ -63,5 +59,4 @@ pub fn counts_are()
     ensures com_non { (boot : System) (past : List Entry) (t : ℕ) → (counts boot past t).com_non ≡ count_of boot past t (λ p. is_stored (place boot past p)) is_nonvolatile_state }
     ensures com_vol { (boot : System) (past : List Entry) (t : ℕ) → (counts boot past t).com_vol ≡ count_of boot past t (λ p. is_stored (place boot past p)) is_volatile_state }
     ensures footprint { (boot : System) (past : List Entry) (t : ℕ) → (counts boot past t).footprint ≡ (counts boot past t).res_non + (counts boot past t).com_non }
-{
-}
+{}

@@ -18,13 +18,11 @@ pub fn standing_more()
     ensures one_more { (e : Entry) (before : List Entry) (o : ℕ) → standing (e ∷ before) o ≡ unwrap_or (says_standing o before (standing before o) e) (standing before o) }
     ensures kept { (e : Entry) (before : List Entry) (o : ℕ) → says_standing o before (standing before o) e ≡ None → standing (e ∷ before) o ≡ standing before o }
     ensures set { (who x word : ℕ) (old : State) (wish : Wish) (before : List Entry) (o : ℕ) → decoded word ≡ Some wish → standing (set_entry who x word old ∷ before) o ≡ (if nat_eq x o then unwrap_or (standing_asked (length before) wish) (standing before o) else standing before o) }
-{
-}
+{}
 
 /// Which objects are volatile, and which is first in a group, where nothing of it changed.
 pub fn groups_kept()
     ensures volatile { (boot : System) (e : Entry) (before : List Entry) (o : ℕ) → mapped boot (e ∷ before) o ≡ mapped boot before o → state (e ∷ before) o ≡ state before o → volatile boot (e ∷ before) o ≡ volatile boot before o }
     ensures stands_in { (boot : System) (e : Entry) (before : List Entry) (q : Queue) (g o : ℕ) → volatile boot (e ∷ before) o ≡ volatile boot before o → standing (e ∷ before) o ≡ standing before o → stands_in boot (e ∷ before) q g o ≡ stands_in boot before q g o }
     ensures first { (boot : System) (e : Entry) (before : List Entry) (q : Queue) (g : ℕ) → ((o : ℕ) → stands_in boot (e ∷ before) q g o ≡ stands_in boot before q g o) → ((o : ℕ) → standing (e ∷ before) o ≡ standing before o) → first boot (e ∷ before) q g ≡ first boot before q g }
-{
-}
+{}

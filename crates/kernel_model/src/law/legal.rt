@@ -25,8 +25,7 @@ pub fn purge()
     ensures volatile { (boot : System) (e : Entry) (before : List Entry) (o : ℕ) → IsLegal boot (e ∷ before) → e.reply ≡ Purged o → volatile boot before o ≡ true }
     ensures places { (boot : System) (e : Entry) (before : List Entry) (o : ℕ) (p : PageId) → IsLegal boot (e ∷ before) → e.reply ≡ Purged o → nat_eq p.obj o ≡ false → placed boot (e ∷ before) p ≡ placed boot before p }
     ensures bytes { (boot : System) (e : Entry) (before : List Entry) (o x b : ℕ) → IsLegal boot (e ∷ before) → e.reply ≡ Purged o → nat_eq x o ≡ false → byte (e ∷ before) x b ≡ byte before x b }
-{
-}
+{}
 
 /// An accepted SetState answers the state before it. That is EMPTY exactly where the newest Map, purge, or SetState NONVOLATILE
 /// or EMPTY was a purge or a SetState EMPTY; no emptying came after
@@ -37,24 +36,21 @@ pub fn set_state()
     ensures none_since { (past : List Entry) (o : ℕ) → emptied_since past o ≡ false }
     ensures decided { (boot : System) (e : Entry) (before : List Entry) (o : ℕ) (w : Wish) → IsValidBoot boot → IsLegal boot (e ∷ before) → asked o e ≡ Some w → is_some (newest_number (λ before e. is_some (decides o e)) before) ≡ true }
     ensures bytes { (boot : System) (e : Entry) (before : List Entry) (o b : ℕ) → IsLegal boot (e ∷ before) → asked o e ≡ Some ask_nonvolatile → byte (e ∷ before) o b ≡ gift_after (newest_number (empties o) before) (newest_gift (written_byte o b) before) }
-{
-}
+{}
 
 /// Each list of deadlines is rising and as long as its queue has volatile objects, where what the kernel begins with is valid.
 /// A PurgeOne or Scan that purges takes exactly one deadline out of the three lists together, and that one was ripe.
 pub fn tokens()
     ensures hold { (boot : System) (past : List Entry) → IsValidBoot boot → IsLegal boot past → HasTokens boot past }
     ensures taken { (boot : System) (e : Entry) (before : List Entry) (o : ℕ) → IsLegal boot (e ∷ before) → e.reply ≡ Purged o → is_ripe_call e.call ≡ true → TakesRipe boot e before }
-{
-}
+{}
 
 /// A task that is killed for pressure is eligible and before every other eligible one, frames were scarce, and no task was over
 /// a limit that comes first. Two tasks never have one stamp.
 pub fn pressure()
     ensures pressed { (boot : System) (e : Entry) (before : List Entry) (t : ℕ) → IsLegal boot (e ∷ before) → e.reply ≡ Killed t Pressure → IsPressed boot before t }
     ensures stamps_differ { (boot : System) (past : List Entry) (t u : ℕ) → IsLegal boot past → (t ≡ u → ⊥) → bstamp boot past t ≡ bstamp boot past u → ⊥ }
-{
-}
+{}
 
 /// The Active and Inactive pages together are at most the frames and the Stored ones at most the store's, and what left never
 /// falls, so that a ripe deadline stays ripe.
@@ -64,5 +60,4 @@ pub fn frames()
     ensures store { (boot : System) (past : List Entry) → IsLegal boot past → stored_pages boot past ≤ boot.params.store }
     ensures left { (boot : System) (e : Entry) (before : List Entry) → left boot before ≤ left boot (e ∷ before) }
     ensures ripe { (boot : System) (e : Entry) (before : List Entry) (d : ℕ) → d ≤ left boot before → d ≤ left boot (e ∷ before) }
-{
-}
+{}

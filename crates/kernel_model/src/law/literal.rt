@@ -15,5 +15,4 @@ ghost use Rattle.std.specs.Prelude.{List, ℕ, ◌≡◌};
 pub fn readings()
     ensures byte { (past : List Entry) (o b : ℕ) → byte past o b ≡ gift_after (newest_number (empties o) past) (newest_gift (written_byte o b) past) }
     ensures touched { (boot : System) (past : List Entry) (p : PageId) → IsLegal boot past → touched_since boot past p ≡ is_after (placed boot past p).number (newest_number (λ before e. touches before e p) past) }
-{
-}
+{}

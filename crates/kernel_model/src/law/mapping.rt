@@ -17,8 +17,7 @@ pub fn life_more()
     ensures exit { (boot : System) (who : ℕ) (before : List Entry) (t : ℕ) → live boot (exit_entry who ∷ before) t ≡ (not (runs_for boot t who) && live boot before t) }
     ensures killed { (boot : System) (who u : ℕ) (cause : Cause) (before : List Entry) (t : ℕ) → live boot (killed_entry who u cause ∷ before) t ≡ (not (nat_eq t u) && live boot before t) }
     ensures kept { (boot : System) (e : Entry) (before : List Entry) (t : ℕ) → is_end boot t e ≡ false → live boot (e ∷ before) t ≡ live boot before t }
-{
-}
+{}
 
 /// Which tasks map an object after an entry, who owns it, and whether it is mapped.
 pub fn maps_more()
@@ -30,8 +29,7 @@ pub fn maps_more()
     ensures kept { (boot : System) (e : Entry) (before : List Entry) (o t : ℕ) → is_end boot t e ≡ false → says_maps boot o t [] true e ≡ None → maps boot (e ∷ before) o t ≡ maps boot before o t }
     ensures owner_kept { (boot : System) (e : Entry) (before : List Entry) (o : ℕ) → ((t : ℕ) → maps boot (e ∷ before) o t ≡ maps boot before o t) → owner boot (e ∷ before) o ≡ owner boot before o }
     ensures mapped_kept { (boot : System) (e : Entry) (before : List Entry) (o : ℕ) → ((t : ℕ) → maps boot (e ∷ before) o t ≡ maps boot before o t) → mapped boot (e ∷ before) o ≡ mapped boot before o }
-{
-}
+{}
 
 /// Which tasks map an object after a Map, an Attach, an Unmap, an Exit and a kill.
 pub fn maps_by_kind()
@@ -40,13 +38,11 @@ pub fn maps_by_kind()
     ensures unmap { (boot : System) (who x : ℕ) (before : List Entry) (o t : ℕ) → maps boot (unmap_entry who x ∷ before) o t ≡ (not (nat_eq x o && runs_for boot t who) && maps boot before o t) }
     ensures exit { (boot : System) (who : ℕ) (before : List Entry) (o t : ℕ) → maps boot (exit_entry who ∷ before) o t ≡ (not (runs_for boot t who) && maps boot before o t) }
     ensures killed { (boot : System) (who u : ℕ) (cause : Cause) (before : List Entry) (o t : ℕ) → maps boot (killed_entry who u cause ∷ before) o t ≡ (not (nat_eq t u) && maps boot before o t) }
-{
-}
+{}
 
 /// An entry unmaps what is mapped before it and not after it; one that ends no task and is no Unmap of it doesn't.
 pub fn unmaps_more()
     ensures is { (boot : System) (e : Entry) (before : List Entry) (o : ℕ) → unmaps boot before e o ≡ (mapped boot before o && not (mapped boot (e ∷ before) o)) }
     ensures none { (boot : System) (e : Entry) (before : List Entry) (o : ℕ) → ((t : ℕ) → is_end boot t e ≡ false) → is_unmap o e ≡ false → unmaps boot before e o ≡ false }
     ensures kept { (boot : System) (e : Entry) (before : List Entry) (o : ℕ) → mapped boot (e ∷ before) o ≡ mapped boot before o → unmaps boot before e o ≡ false }
-{
-}
+{}

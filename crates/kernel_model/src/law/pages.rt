@@ -19,8 +19,7 @@ pub fn placed_more()
     ensures none { (boot : System) (p : PageId) → placed boot [] p ≡ record { place = Absent; number = 0 } }
     ensures one_more { (boot : System) (e : Entry) (before : List Entry) (p : PageId) → placed boot (e ∷ before) p ≡ next_placed (state before p.obj) (unmaps boot before e p.obj) (length before) p (placed boot before p) e }
     ensures kept { (boot : System) (e : Entry) (before : List Entry) (p : PageId) → place_given (state before p.obj) (unmaps boot before e p.obj) p (place boot before p) e ≡ None → placed boot (e ∷ before) p ≡ placed boot before p }
-{
-}
+{}
 
 /// The place of a page after an emptying, an unmapping, a touch and a move.
 pub fn placed_by_kind()
@@ -29,8 +28,7 @@ pub fn placed_by_kind()
     ensures faulted { (boot : System) (e : Entry) (before : List Entry) (p : PageId) → empties p.obj before e ≡ false → unmaps boot before e p.obj ≡ false → touches before e p ≡ true → is_out (place boot before p) ≡ true → placed boot (e ∷ before) p ≡ record { place = Active; number = length before } }
     ensures stays { (boot : System) (e : Entry) (before : List Entry) (p : PageId) → empties p.obj before e ≡ false → unmaps boot before e p.obj ≡ false → is_out (place boot before p) ≡ false → move_of p e.reply ≡ None → placed boot (e ∷ before) p ≡ placed boot before p }
     ensures moved { (boot : System) (who : ℕ) (move : Move) (q : PageId) (before : List Entry) (p : PageId) → placed boot (moved_entry who move q ∷ before) p ≡ (if same_page p q then record { place = moved_to move; number = length before } else placed boot before p) }
-{
-}
+{}
 
 /// Whether a page was touched since its stamp, after one entry more.
 pub fn touched_more()
@@ -40,8 +38,7 @@ pub fn touched_more()
     ensures unmapped { (boot : System) (e : Entry) (before : List Entry) (p : PageId) → unmaps boot before e p.obj ≡ true → touched_since boot (e ∷ before) p ≡ false }
     ensures touched { (boot : System) (e : Entry) (before : List Entry) (p : PageId) → empties p.obj before e ≡ false → unmaps boot before e p.obj ≡ false → touches before e p ≡ true → touched_since boot (e ∷ before) p ≡ not (is_out (place boot before p)) }
     ensures moved { (boot : System) (who : ℕ) (move : Move) (q : PageId) (before : List Entry) (p : PageId) → touched_since boot (moved_entry who move q ∷ before) p ≡ (not (same_page p q) && touched_since boot before p) }
-{
-}
+{}
 
 /// Whether a page has a Write newer than the newest emptying, after one entry more.
 pub fn written_more()
@@ -49,5 +46,4 @@ pub fn written_more()
     ensures kept { (e : Entry) (before : List Entry) (p : PageId) → says_written p before (written before p) e ≡ None → written (e ∷ before) p ≡ written before p }
     ensures emptied { (e : Entry) (before : List Entry) (p : PageId) → empties p.obj before e ≡ true → written (e ∷ before) p ≡ false }
     ensures write { (who x off : ℕ) (bytes : List ℕ) (before : List Entry) (p : PageId) → written (write_entry who x off bytes ∷ before) p ≡ ((nat_eq x p.obj && reaches_page off (length bytes) p.page) || written before p) }
-{
-}
+{}

@@ -9,5 +9,4 @@ ghost use Rattle.kernel_model.specs.Laws.Unchanged.{Unchanged};
 /// A refused call, and a call that only asks and whose reply tells of no change, leave every answer as it was.
 pub fn quiet_more()
     ensures unchanged { (boot : System) (e : Entry) (before : List Entry) → is_quiet e ≡ true → Unchanged boot e before }
-{
-}
+{}

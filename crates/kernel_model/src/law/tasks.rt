@@ -15,8 +15,7 @@ pub fn wish_more()
     ensures one_more { (boot : System) (e : Entry) (before : List Entry) (t : ℕ) → wish boot (e ∷ before) t ≡ unwrap_or (sets_band t e) (wish boot before t) }
     ensures kept { (boot : System) (e : Entry) (before : List Entry) (t : ℕ) → sets_band t e ≡ None → wish boot (e ∷ before) t ≡ wish boot before t }
     ensures set { (boot : System) (who x band : ℕ) (before : List Entry) (t : ℕ) → wish boot (band_entry who x band ∷ before) t ≡ (if nat_eq t x then band else wish boot before t) }
-{
-}
+{}
 
 /// Whether a task is active, after one entry more.
 pub fn active_more()
@@ -24,16 +23,14 @@ pub fn active_more()
     ensures kept { (boot : System) (e : Entry) (before : List Entry) (t : ℕ) → sets_active boot t e ≡ None → active boot (e ∷ before) t ≡ active boot before t }
     ensures set { (boot : System) (who : ℕ) (on was : Bool) (before : List Entry) (t : ℕ) → active boot (active_entry who on was ∷ before) t ≡ (if runs_for boot t who then on else active boot before t) }
     ensures others { (boot : System) (e : Entry) (t : ℕ) → active_call e.call ≡ None → sets_active boot t e ≡ None }
-{
-}
+{}
 
 /// The limits of a task after one entry more.
 pub fn limits_more()
     ensures one_more { (boot : System) (e : Entry) (before : List Entry) (t : ℕ) → limits boot (e ∷ before) t ≡ unwrap_or (if accepted e then limits_call t e.call else None) (limits boot before t) }
     ensures kept { (boot : System) (e : Entry) (before : List Entry) (t : ℕ) → (if accepted e then limits_call t e.call else None) ≡ None → limits boot (e ∷ before) t ≡ limits boot before t }
     ensures set { (boot : System) (who x : ℕ) (a i : Limit) (before : List Entry) (t : ℕ) → limits boot (limits_entry who x a i ∷ before) t ≡ (if nat_eq t x then record { when_active = a; when_inactive = i } else limits boot before t) }
-{
-}
+{}
 
 /// How a task was placed in its band, after one entry more.
 pub fn placing_more()
@@ -43,8 +40,7 @@ pub fn placing_more()
     ensures active { (boot : System) (who : ℕ) (on was : Bool) (before : List Entry) (t : ℕ) → placing boot (active_entry who on was ∷ before) t ≡ (if (runs_for boot t who && differs (active boot before t) on) && nat_eq (wish boot before t) 0 then record { aged = false; bstamp = (suc (length before), 0) } else placing boot before t) }
     ensures tick { (boot : System) (who : ℕ) (aged : List ℕ) (before : List Entry) (t : ℕ) → placing boot (tick_entry who aged ∷ before) t ≡ option_map_or (λ i. record { aged = true; bstamp = (suc (length before), i) }) (position (nat_eq t) aged) (placing boot before t) }
     ensures band_kept { (boot : System) (e : Entry) (before : List Entry) (t : ℕ) → placing boot (e ∷ before) t ≡ placing boot before t → wish boot (e ∷ before) t ≡ wish boot before t → band boot (e ∷ before) t ≡ band boot before t }
-{
-}
+{}
 
 /// The Ticks that count for the ageing of a task, after one entry more.
 pub fn ticks_more()
@@ -54,5 +50,4 @@ pub fn ticks_more()
     ensures band { (boot : System) (who x band : ℕ) (before : List Entry) (t : ℕ) → ticks boot (band_entry who x band ∷ before) t ≡ (if nat_eq t x && nat_eq 0 band then 0 else ticks boot before t) }
     ensures active { (boot : System) (who : ℕ) (on was : Bool) (before : List Entry) (t : ℕ) → ticks boot (active_entry who on was ∷ before) t ≡ (if runs_for boot t who && not on && active boot before t then 0 else ticks boot before t) }
     ensures counting_kept { (boot : System) (e : Entry) (before : List Entry) (t : ℕ) → live boot (e ∷ before) t ≡ live boot before t → active boot (e ∷ before) t ≡ active boot before t → wish boot (e ∷ before) t ≡ wish boot before t → band boot (e ∷ before) t ≡ band boot before t → counts_for_ageing boot (e ∷ before) t ≡ counts_for_ageing boot before t }
-{
-}
+{}
