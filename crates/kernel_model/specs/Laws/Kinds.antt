@@ -1,5 +1,5 @@
 -- Kinds of entries, by what they can change.
-use Rattle.std.specs.Prelude.{ℕ, List, Bool, true, false, ◌&&◌, not, if◌then◌else◌, nat_eq}
+use Rattle.std.specs.Prelude.{ℕ, List, Bool, true, false, ◌&&◌, ◌||◌, not, if◌then◌else◌, nat_eq}
 use Rattle.std.specs.Option.{option_map_or}
 use Rattle.kern_ids.specs.declared.entries.Entry.{Entry}
 use Rattle.kern_ids.specs.declared.calls.Call.{Call}
@@ -12,7 +12,8 @@ use Rattle.kern_ids.specs.declared.calls.Limit.{Limit}
 use Rattle.kern_ids.specs.declared.calls.State.{State}
 use Rattle.kern_ids.specs.declared.ids.PageId.{PageId}
 use Rattle.kernel_model.specs.System.{System}
-use Rattle.kernel_model.specs.Events.{accepted, task_of}
+use Rattle.kernel_model.specs.Events.{accepted, task_of, is_map, is_purge}
+use Rattle.kernel_model.specs.Contents.{asks_empty}
 use Rattle.kernel_model.specs.Bands.{is_tick_call}
 
 -- calls that change nothing by themselves, though their reply may tell of a change
@@ -113,3 +114,11 @@ tells (Moved move p) call = is_scan_call call
 tells (Aged ts) call = is_tick_call call
 tells (Killed t cause) call = is_jetsam_call call
 tells _ call = true
+
+abbrev pub is_write_call : ℕ → Call → Bool
+is_write_call o (Write x off bytes) = nat_eq x o
+is_write_call o _ = false
+
+-- an entry touches the bytes of o: an accepted Map or Write of it, a purge of it, or an accepted SetState of it that asks for EMPTY
+abbrev pub touches_bytes : ℕ → Entry → Bool
+touches_bytes o e = is_map o e || (accepted e && is_write_call o e.call) || is_purge o e || asks_empty o e

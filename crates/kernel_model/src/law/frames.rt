@@ -8,6 +8,7 @@ ghost use Rattle.kernel_model.specs.Counted.{count_of, counts, is_nonvolatile_st
 ghost use Rattle.kernel_model.specs.Groups.{is_volatile_state};
 ghost use Rattle.kernel_model.specs.Laws.Frames.{bit, has_share, is_in, is_page, pages_at, share_of};
 ghost use Rattle.kernel_model.specs.Laws.Kinds.{moved_entry};
+ghost use Rattle.kernel_model.specs.Laws.Order.{Has};
 ghost use Rattle.kernel_model.specs.Mapping.{owner};
 ghost use Rattle.kernel_model.specs.Pages.{active_pages, entered, free, inactive_pages, is_deactivation, is_stored, left, next_entered, pages_in, pages_of, place, placed, same_page};
 ghost use Rattle.kernel_model.specs.State.{state};
@@ -41,6 +42,12 @@ pub fn pages_more()
     ensures page { (boot : System) (e : Entry) (before : List Entry) (p : PageId) (k : Place → Bool) → is_page boot p ≡ true → ((q : PageId) → same_page p q ≡ false → placed boot (e ∷ before) q ≡ placed boot before q) → count_by (λ q. k (place boot (e ∷ before) q)) (pages_of boot) + bit (k (place boot before p)) ≡ count_by (λ q. k (place boot before q)) (pages_of boot) + bit (k (place boot (e ∷ before) p)) }
     ensures object { (boot : System) (e : Entry) (before : List Entry) (o : ℕ) (k : Place → Bool) → o < length boot.objects → ((q : PageId) → nat_eq o q.obj ≡ false → placed boot (e ∷ before) q ≡ placed boot before q) → count_by (λ q. k (place boot (e ∷ before) q)) (pages_of boot) + pages_at boot before k o ≡ count_by (λ q. k (place boot before q)) (pages_of boot) + pages_at boot (e ∷ before) k o }
     ensures absent { (boot : System) (past : List Entry) (k : Place → Bool) (o : ℕ) → k Absent ≡ false → ((n : ℕ) → place boot past (record { obj = o; page = n }) ≡ Absent) → pages_at boot past k o ≡ 0 }
+{}
+
+/// The pages are those of the declared objects, below their sizes.
+pub fn pages_are()
+    ensures declared { (boot : System) (p : PageId) → is_page boot p ≡ true → Has (pages_of boot) p }
+    ensures only { (boot : System) (p : PageId) → Has (pages_of boot) p → is_page boot p ≡ true }
 {}
 
 /// The pages of a task after an entry that changes one object, or the place of one page.

@@ -27,9 +27,10 @@ pub fn purge()
     ensures bytes { (boot : System) (e : Entry) (before : List Entry) (o x b : ℕ) → IsLegal boot (e ∷ before) → e.reply ≡ Purged o → nat_eq x o ≡ false → byte (e ∷ before) x b ≡ byte before x b }
 {}
 
-/// An accepted SetState answers the state before it. That is EMPTY exactly where the newest Map, purge, or SetState NONVOLATILE
-/// or EMPTY was a purge or a SetState EMPTY; no emptying came after
-/// that entry, which there is, and after a SetState NONVOLATILE each byte is that of the newest Write since the newest emptying, or 0.
+/// An accepted SetState answers the state before it. That is EMPTY exactly where the newest Map, purge, or
+/// SetState NONVOLATILE or EMPTY was a purge or a SetState EMPTY. There is such an entry where what the kernel
+/// begins with is valid, and no emptying came after it. After a SetState NONVOLATILE each byte is that of the
+/// newest Write covering it since the newest emptying, or 0.
 pub fn set_state()
     ensures old { (boot : System) (e : Entry) (before : List Entry) (o : ℕ) (w : Wish) → IsLegal boot (e ∷ before) → asked o e ≡ Some w → e.reply ≡ Old (state before o) }
     ensures lost { (boot : System) (e : Entry) (before : List Entry) (o : ℕ) (w : Wish) → IsLegal boot (e ∷ before) → asked o e ≡ Some w → (e.reply ≡ Old Empty) ↔ (lost before o ≡ true) }
