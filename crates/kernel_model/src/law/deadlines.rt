@@ -5,7 +5,7 @@ ghost use Rattle.kern_ids.specs.declared.calls.Queue.{Queue};
 ghost use Rattle.kern_ids.specs.declared.calls.State.{State};
 ghost use Rattle.kern_ids.specs.declared.calls.Wish.{Wish};
 ghost use Rattle.kern_ids.specs.declared.entries.Entry.{Entry};
-ghost use Rattle.kernel_model.specs.Deadlines.{after_ripe, after_set, after_unmappings, changed, deadlines, ripe_queue, set_by, without_first};
+ghost use Rattle.kernel_model.specs.Deadlines.{after_ripe, after_set, after_unmappings, changed, deadlines, ripe_of, ripe_queue, set_by, without_first};
 ghost use Rattle.kernel_model.specs.Events.{accepted, purged_by};
 ghost use Rattle.kernel_model.specs.Groups.{standing};
 ghost use Rattle.kernel_model.specs.Laws.Kinds.{forced_entry, purge_entry, scan_purge_entry, set_entry};
@@ -19,6 +19,11 @@ ghost use Rattle.std.specs.Prelude.{List, None, Some, false, if◌then◌else◌
 pub fn deadlines_more()
     ensures one_more { (boot : System) (e : Entry) (before : List Entry) → deadlines boot (e ∷ before) ≡ changed boot before e (deadlines boot before) }
     ensures kept { (boot : System) (e : Entry) (before : List Entry) → (if accepted e then Rattle.kernel_model.specs.Deadlines.set_by e.call else None) ≡ None → Rattle.kernel_model.specs.Events.purged_by e.reply ≡ None → ((o : ℕ) → unmaps boot before e o ≡ false) → deadlines boot (e ∷ before) ≡ deadlines boot before }
+{}
+
+/// Which queue is ripe after one entry more.
+pub fn ripe_more()
+    ensures one_more { (boot : System) (e : Entry) (before : List Entry) → ripe_queue boot (e ∷ before) ≡ ripe_of (left boot (e ∷ before)) (changed boot before e (deadlines boot before)) }
 {}
 
 /// The lists of deadlines after an accepted SetState, a purge of each kind, and an unmapping.
