@@ -1,5 +1,5 @@
 -- The total of one object, where there is one note more.
-use Rattle.std.proofs.Common.{◌≡◌, ◌≢◌, ℕ, zero, suc, ◌+◌, ◌%◌, ◌^◌, ◌<◌, cond, eqb, List, [], ◌∷◌, ◌++◌, refl, ap, ◌∙◌, eq-eqb, ne_eqb, arith}
+use Rattle.std.proofs.Common.{◌≡◌, ◌≢◌, ℕ, zero, suc, ◌+◌, ◌%◌, ◌^◌, cond, eqb, List, [], ◌∷◌, ◌++◌, ap, ◌∙◌, eq-eqb, ne_eqb, arith}
 use Rattle.std.specs.List.{Contains}
 use Rattle.turn_lock_uses.specs.declared.Note.{Note}
 use Rattle.turn_lock_uses.specs.Jars.{total, sum_in}
