@@ -1,0 +1,5 @@
+pub mod Ranges
+pub mod Members
+pub mod Runs
+pub mod Walks
+pub mod LinkedSteps
