@@ -2,7 +2,7 @@
 //! constant time.
 #![tactic(auto)]
 
-ghost use Rattle.std.specs.Prelude.{◌≡◌, ◌∷◌, ◌++◌, ◌<◌, [], length, map, set, replicate, IsSome, IsNone, IfOk, slice_get};
+ghost use Rattle.std.specs.Prelude.{◌≡◌, ◌∷◌, ◌++◌, ◌<◌, [], length, map, set, replicate, IsSome, IsNone, IfSome, IfOk, slice_get};
 ghost use Rattle.link_list.specs.KeyLists.{list_at, place_of, list_with, after, without, IsOnceEach};
 
 mod fill;
@@ -101,7 +101,8 @@ impl<const N: usize> Lists<N> {
     /// The first key of list l; None where the list is empty.
     pub fn front(&self, l: usize) -> Option<usize>
         requires list { l < N }
-        ensures { result ≡ slice_get (list_at self.now.lists l) 0 }
+        ensures first { result ≡ slice_get (list_at self.now.lists l) 0 }
+        ensures bound { IfSome result (λ key. key < self.now.cap) }
     {
         let first = self.next[self.cap + l];
         if first < self.cap { Some(first) } else { None }
@@ -110,7 +111,8 @@ impl<const N: usize> Lists<N> {
     /// The key that comes right after a key in its list; None where the key stands nowhere or is the last.
     pub fn next(&self, key: usize) -> Option<usize>
         requires key { key < self.now.cap }
-        ensures { result ≡ after key (list_with key self.now.lists) }
+        ensures behind { result ≡ after key (list_with key self.now.lists) }
+        ensures bound { IfSome result (λ behind. behind < self.now.cap) }
     {
         if self.owner[key] == N {
             return None;
@@ -126,7 +128,8 @@ impl<const N: usize> Lists<N> {
     /// The number of the list in which a key stands; None where it stands nowhere.
     pub fn list_of(&self, key: usize) -> Option<usize>
         requires key { key < self.now.cap }
-        ensures { result ≡ place_of key self.now.lists }
+        ensures place { result ≡ place_of key self.now.lists }
+        ensures bound { IfSome result (λ l. l < N) }
     {
         let l = self.owner[key];
         if l < N { Some(l) } else { None }
