@@ -3,3 +3,4 @@ pub mod Members
 pub mod Runs
 pub mod Walks
 pub mod LinkedSteps
+pub mod Places

@@ -1,7 +1,8 @@
 -- Whether a key stands in a list that was changed.
-use Rattle.std.proofs.Common.{◌≡◌, ℕ, true, false, ◌⊎◌, inl, inr, List, [], ◌∷◌, ◌++◌, refl, sym, ap, ◌∙◌, subst, eqb}
+use Rattle.std.proofs.Common.{Some, None, slice_get, ◌≡◌, ℕ, true, false, ◌⊎◌, inl, inr, List, [], ◌∷◌, ◌++◌, refl, sym, ap, ◌∙◌, subst, eqb}
 use Rattle.std.proofs.lemmas.Bool.{eqb-true, eqb-false, eq-eqb, ne_eqb, or_parts, or_cases, or_left, or_right, cases_eq, false_from_ne_true, false≢true, both_ways}
-use Rattle.link_list.specs.KeyLists.{has, without, IsOnce}
+use Rattle.std.proofs.lemmas.Option.{none-some, same_Some}
+use Rattle.link_list.specs.KeyLists.{has, without, IsOnce, after}
 
 -- a key that isn't in a list with x at its head
 pub apart_head : (key x : ℕ) (xs : List ℕ) → has key (x ∷ xs) ≡ false → (key ≡ x → ⊥) × (has key xs ≡ false)
@@ -97,4 +98,52 @@ IsOnce-without key [] o = tt
 IsOnce-without key (x ∷ xs) o = elim (cases_eq key x) [
   | inl e ↦ subst IsOnce (sym (without_head key x xs e)) (IsOnce-without key xs o.1)
   | inr e ↦ subst IsOnce (sym (without_other key x xs e)) (has_without_none x key xs o.0, IsOnce-without key xs o.1)
+]
+
+-- one list behind another
+pub has_append : (x : ℕ) (xs ys : List ℕ) → has x (xs ++ ys) ≡ true → (has x xs ≡ true) ⊎ (has x ys ≡ true)
+has_append x [] ys h = inr h
+has_append x (y ∷ xs) ys h = elim (has_head x y (xs ++ ys) h) [
+  | inl e ↦ inl (has_at_head x y xs e)
+  | inr e ↦ elim (has_append x xs ys e) [ inl s ↦ inl (has_in_rest x y xs s) | inr s ↦ inr s ]
+]
+
+pub IsOnce-append : (xs ys : List ℕ) → IsOnce xs → IsOnce ys → ((x : ℕ) → has x xs ≡ true → has x ys ≡ false) → IsOnce (xs ++ ys)
+IsOnce-append [] ys o p apart = p
+IsOnce-append (x ∷ xs) ys o p apart = (
+  false_from_ne_true _ (λ m. elim (has_append x xs ys m) [ inl e ↦ both_ways _ o.0 e | inr e ↦ both_ways _ (apart x (has_at_head x x xs refl)) e ]),
+  IsOnce-append xs ys o.1 p (λ y m. apart y (has_in_rest y x xs m)),
+)
+
+-- the key after a key, in one list behind another
+pub after-skip : (key : ℕ) (xs ys : List ℕ) → has key xs ≡ false → after key (xs ++ ys) ≡ after key ys
+after-skip key [] ys h = refl
+after-skip key (x ∷ xs) ys h = let a = apart_head key x xs h in rw (ne_eqb key x a.0) (after-skip key xs ys a.1)
+
+after_alone : (key x : ℕ) → after key (x ∷ []) ≡ None
+after_alone key x = elim (cases_eq key x) [ inl e ↦ rw (eq-eqb key x e) refl | inr e ↦ rw (ne_eqb key x e) refl ]
+
+pub after-in_some : (key y : ℕ) (xs ys : List ℕ) → after key xs ≡ Some y → after key (xs ++ ys) ≡ Some y
+after-in_some key y [] ys h = absurd (none-some y h)
+after-in_some key y (x ∷ []) ys h = absurd (none-some y (sym (after_alone key x) ∙ h))
+after-in_some key y (x ∷ z ∷ xs) ys h = elim (cases_eq key x) [
+  | inl e ↦ rw (eq-eqb key x e) (sym (rw (eq-eqb key x e) refl) ∙ h)
+  | inr e ↦ rw (ne_eqb key x e) (after-in_some key y (z ∷ xs) ys (sym (rw (ne_eqb key x e) refl) ∙ h))
+]
+
+pub after-in_none : (key : ℕ) (xs ys : List ℕ) → has key xs ≡ true → after key xs ≡ None → after key (xs ++ ys) ≡ slice_get ys 0
+after-in_none key [] ys m h = absurd (false≢true m)
+after-in_none key (x ∷ []) ys m h = rw (eq-eqb key x (elim (has_head key x [] m) [ inl e ↦ e | inr e ↦ absurd (false≢true e) ])) refl
+after-in_none key (x ∷ z ∷ xs) ys m h = elim (cases_eq key x) [
+  | inl e ↦ absurd (none-some z (sym h ∙ rw (eq-eqb key x e) refl))
+  | inr e ↦ rw (ne_eqb key x e) (after-in_none key (z ∷ xs) ys (other_in_rest key x (z ∷ xs) m e) (sym (rw (ne_eqb key x e) refl) ∙ h))
+]
+
+-- the key after a key is in the list
+pub has_after : (key y : ℕ) (xs : List ℕ) → after key xs ≡ Some y → has y xs ≡ true
+has_after key y [] h = absurd (none-some y h)
+has_after key y (x ∷ []) h = absurd (none-some y (sym (after_alone key x) ∙ h))
+has_after key y (x ∷ z ∷ xs) h = elim (cases_eq key x) [
+  | inl e ↦ has_in_rest y x (z ∷ xs) (has_at_head y z xs (sym (same_Some z y (sym (rw (eq-eqb key x e) refl) ∙ h))))
+  | inr e ↦ has_in_rest y x (z ∷ xs) (has_after key y (z ∷ xs) (sym (rw (ne_eqb key x e) refl) ∙ h))
 ]
