@@ -117,6 +117,13 @@ module _ {n cap : ℕ} {next prev owner : List ℕ} {lists : List (List ℕ)} (h
   pub none_behind : (key : ℕ) → key < cap → get_or owner key 0 ≡ n → after key (list_with key lists) ≡ None
   none_behind key lt o = ap (after key) (list_with_owner key lt ∙ ap (list_at lists) o ∙ get_or_past lists n [] (omega (arith, h.count)))
 
+  -- all keys are below `cap`
+  pub all_below : (l key : ℕ) → has key (list_at lists l) ≡ true → key < cap
+  all_below l key m = elim (cases_lt l n) [
+    | inl ln ↦ (h.owned l key ln m).0
+    | inr past ↦ absurd (false≢true (sym (ap (has key) (get_or_past lists l [] (omega (arith, h.count)))) ∙ m))
+  ]
+
   pub once_each : IsOnceEach lists
   once_each = record {
     within = λ l lt. h.once l (omega (arith, h.count));

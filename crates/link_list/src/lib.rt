@@ -2,8 +2,8 @@
 //! constant time.
 #![tactic(auto)]
 
-ghost use Rattle.std.specs.Prelude.{◌≡◌, ◌∷◌, ◌++◌, ◌<◌, [], length, map, set, replicate, IsSome, IsNone, IfSome, IfOk, slice_get};
-ghost use Rattle.link_list.specs.KeyLists.{list_at, place_of, list_with, after, without, IsOnceEach};
+ghost use Rattle.std.specs.Prelude.{◌≡◌, ℕ, true, ◌∷◌, ◌++◌, ◌<◌, [], length, map, set, replicate, IsSome, IsNone, IfSome, IfOk, slice_get};
+ghost use Rattle.link_list.specs.KeyLists.{has, list_at, place_of, list_with, after, without, IsOnceEach};
 
 mod fill;
 #[cfg(test)]
@@ -135,10 +135,11 @@ impl<const N: usize> Lists<N> {
         if l < N { Some(l) } else { None }
     }
 
-    /// That each key stands at most once, for a proof that needs it.
+    /// That there are N lists, each key stands at most once, and all are below `cap`, for a proof that needs it.
     pub fn each_once(&self)
         ensures count { length self.now.lists ≡ N }
         ensures once { IsOnceEach self.now.lists }
+        ensures below { (l key : ℕ) → has key (list_at self.now.lists l) ≡ true → key < self.now.cap }
     {
         let _ = &self.cap;
     }

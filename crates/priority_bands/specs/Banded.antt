@@ -1,7 +1,7 @@
 -- The priority bands: a list of tasks for each band, from the lowest on. The head of a band comes first in it.
-use Rattle.std.specs.Prelude.{◌≡◌, ℕ, Bool, true, false, List, [], ◌∷◌, ◌++◌, ◌⊎◌, Option, Some, None, map, drop, set, length}
+use Rattle.std.specs.Prelude.{◌<◌, ◌≡◌, ℕ, Bool, true, false, List, [], ◌∷◌, ◌++◌, ◌⊎◌, Option, Some, None, map, drop, set, length}
 use Rattle.std.specs.List.{flat_map}
-use Rattle.link_list.specs.KeyLists.{KeyLists, list_at, without, IsOnceEach}
+use Rattle.link_list.specs.KeyLists.{KeyLists, has, list_at, without, IsOnceEach}
 
 -- the bands without a task
 abbrev pub removed : List (List ℕ) → ℕ → List (List ℕ)
@@ -25,6 +25,7 @@ IsFirstTrue answers (task ∷ tasks) first =
 pub record AreBands (bands : List (List ℕ)) : Type 0 where
   pub count : length bands ≡ 21
   pub once : IsOnceEach bands
+  pub below : (band task : ℕ) → has task (list_at bands band) ≡ true → task < 64
 
 -- how the bands are kept
 pub record IsKept (kept : KeyLists) : Type 0 where

@@ -1,9 +1,9 @@
 -- The groups of volatile objects: a list for each queue and group, the queues in the order OBSOLETE, LIFO,
 -- FIFO, and in each the groups from 0 to 7. The first object of a group is at the head of its list.
-use Rattle.std.specs.Prelude.{◌≡◌, ℕ, ◌+◌, ◌<◌, List, [], ◌∷◌, ◌++◌, Option, nat_lt, set, length, option_map, if◌then◌else◌}
+use Rattle.std.specs.Prelude.{◌≡◌, true, ℕ, ◌+◌, ◌<◌, List, [], ◌∷◌, ◌++◌, Option, nat_lt, set, length, option_map, if◌then◌else◌}
 use Rattle.kern_ids.specs.declared.calls.Queue.{Queue}
 use Rattle.kern_ids.specs.declared.calls.Queue.TheVariants.{Obsolete, Lifo, Fifo}
-use Rattle.link_list.specs.KeyLists.{KeyLists, list_at, place_of, IsOnceEach}
+use Rattle.link_list.specs.KeyLists.{KeyLists, has, list_at, place_of, IsOnceEach}
 
 -- the number of a queue's first list
 abbrev pub first_list : Queue → ℕ
@@ -37,6 +37,7 @@ queue_of o groups = option_map queue_at (place_of o groups)
 pub record AreGroups (groups : List (List ℕ)) : Type 0 where
   pub count : length groups ≡ 24
   pub once : IsOnceEach groups
+  pub below : (list o : ℕ) → has o (list_at groups list) ≡ true → o < 256
   pub obsolete : (group : ℕ) → 0 < group → group < 8 → members groups Obsolete group ≡ []
 
 -- how the groups are kept
