@@ -1,5 +1,5 @@
 -- How idle tasks age: a task that counts is aged by the tick that is at least its delay-th since the count began.
-use Rattle.std.specs.Prelude.{◌≡◌, ℕ, ◌+◌, Bool, true, false, List, ◌++◌, Option, Some, None, map, filter, length, min, nat_le, slice_index_or, option_map, if◌then◌else◌}
+use Rattle.std.specs.Prelude.{◌≡◌, ℕ, ◌+◌, Bool, false, List, ◌++◌, Option, None, map, filter, length, min, nat_le, slice_index_or, option_map, if◌then◌else◌}
 use Rattle.std.specs.Option.{option_map_or}
 use Rattle.std.specs.List.{range_with_len}
 use Rattle.link_list.specs.KeyLists.{has, list_at}

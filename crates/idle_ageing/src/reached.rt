@@ -1,6 +1,6 @@
 //! Which tasks have reached their delay.
 
-ghost use Rattle.std.specs.Prelude.{◌≡◌, ◌<◌, ◌≤◌, ◌+◌, ◌++◌, length, filter, slice_get};
+ghost use Rattle.std.specs.Prelude.{◌≡◌, ◌<◌, ◌≤◌, ◌+◌, ◌++◌, ◌∷◌, [], if◌then◌else◌, length, filter, slice_get};
 ghost use Rattle.link_list.specs.KeyLists.{list_at};
 ghost use Rattle.idle_ageing.specs.Ageing.{has_reached};
 
@@ -17,6 +17,16 @@ fn head_of(b: &Bands, band: u32) -> Option<TaskId>
     match Band::new(band) {
         Some(band) => b.first(band),
         None => None,
+    }
+}
+
+/// Appends a task to a line where it is wanted there.
+fn push_if(line: &mut TaskLine, t: TaskId, wanted: bool)
+    requires { length line.old < 64 }
+    ensures { line.new ≡ (if wanted then line.old ++ t ∷ [] else line.old) }
+{
+    if wanted {
+        line.push(t);
     }
 }
 
@@ -44,9 +54,7 @@ impl Ages {
         b.are_bands();
         let mut at = head_of(b, band);
         while let Some(t) = at {
-            if self.has_reached(t) {
-                line.push(t);
-            }
+            push_if(line, t, self.has_reached(t));
             at = b.next(t);
         }
     }

@@ -9,7 +9,11 @@ fn the_second_tick_ages(rt: HostRuntime) {
     let ages = Ages::new(rt.alloc(), &[1, 2]);
     let bands = Bands::new(rt.alloc());
     assert!(rt; ages.is_ok() && bands.is_ok());
-    if let Ok(mut ages) = ages && let Ok(mut bands) = bands && let Some(one) = TaskId::new(1) && let Some(low) = Band::new(1) {
+    if let Ok(mut ages) = ages
+        && let Ok(mut bands) = bands
+        && let Some(one) = TaskId::new(1)
+        && let Some(low) = Band::new(1)
+    {
         bands.place(one, low);
         ages.restart(one);
         assert!(rt; ages.tick(&bands).len() == 0);

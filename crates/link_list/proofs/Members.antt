@@ -1,6 +1,6 @@
 -- Whether a key stands in a list that was changed.
 use Rattle.std.proofs.Common.{Some, None, slice_get, ◌≡◌, ℕ, true, false, ◌⊎◌, inl, inr, List, [], ◌∷◌, ◌++◌, refl, sym, ap, ◌∙◌, subst, eqb}
-use Rattle.std.proofs.lemmas.Bool.{eqb-true, eqb-false, eq-eqb, ne_eqb, or_parts, or_cases, or_left, or_right, cases_eq, false_from_ne_true, false≢true, both_ways}
+use Rattle.std.proofs.lemmas.Bool.{eqb-true, eqb-false, eq-eqb, ne_eqb, or_parts, or_cases, or_left, or_right, cases_eq, false_from_ne_true, false≢true, both_ways, cases_Bool}
 use Rattle.std.proofs.lemmas.Option.{none-some, same_Some}
 use Rattle.link_list.specs.KeyLists.{has, without, IsOnce, after}
 
@@ -146,4 +146,10 @@ has_after key y (x ∷ []) h = absurd (none-some y (sym (after_alone key x) ∙ 
 has_after key y (x ∷ z ∷ xs) h = elim (cases_eq key x) [
   | inl e ↦ has_in_rest y x (z ∷ xs) (has_at_head y z xs (sym (same_Some z y (sym (rw (eq-eqb key x e) refl) ∙ h))))
   | inr e ↦ has_in_rest y x (z ∷ xs) (has_after key y (z ∷ xs) (sym (rw (ne_eqb key x e) refl) ∙ h))
+]
+
+pub has_push_other : (x key : ℕ) (xs : List ℕ) → (x ≡ key → ⊥) → has x (xs ++ key ∷ []) ≡ has x xs
+has_push_other x key xs n = elim (cases_Bool (has x xs)) [
+  | inl e ↦ has_push_old x key xs e ∙ sym e
+  | inr e ↦ has_push_none x key xs e n ∙ sym e
 ]
