@@ -1,0 +1,5 @@
+pub mod TimesLemmas
+pub mod ReadLemmas
+pub mod EditLemmas
+pub mod LinkLemmas
+pub mod RingLemmas
