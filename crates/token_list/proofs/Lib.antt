@@ -3,3 +3,4 @@ pub mod ReadLemmas
 pub mod EditLemmas
 pub mod LinkLemmas
 pub mod RingLemmas
+pub mod GapLemmas

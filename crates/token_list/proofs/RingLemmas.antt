@@ -2,14 +2,14 @@
 use Rattle.std.proofs.Common.{◌≡◌, ◌≢◌, ℕ, ◌+◌, ◌-◌, ◌<◌, ◌≤◌, zero, suc, List, [], ◌∷◌, ◌++◌, length, get_or, take, drop, set, cond, eqb, refl, ap, ap₂, sym, ◌∙◌, subst, arith, add-one}
 use Rattle.std.specs.List.{insert, remove}
 use Rattle.std.proofs.lemmas.Bool.Decides.{nat_tests}
-use Rattle.std.proofs.lemmas.List.{get_or-set_same, length-append, length-set, drop_more, drop-set}
+use Rattle.std.proofs.lemmas.List.{get_or-set_same, get_or_append_left, get_or_at, length-append, length-set, drop_more, drop-set}
 use Rattle.std.proofs.lemmas.List.Edits.{insert-append_left, remove-append_left, length-insert, length-remove}
 use Rattle.token_list.specs.declared.slot_ring.SlotRing.TheInside.{Inside}
 use Rattle.token_list.specs.Slots.{Row, times, reads, IsLinked, StandsAt, Stands}
 use Rattle.token_list.specs.Ring.{walk, order, row, IsRing}
 use Rattle.token_list.proofs.TimesLemmas.{times-append}
 use Rattle.token_list.proofs.ReadLemmas.{reads-insert, reads-remove, reads-set-absent, reads-set}
-use Rattle.token_list.proofs.LinkLemmas.{walk-is, length-walk, times-row, slot-below, slot-before_end, before-below, next-at, linked-insert, linked-remove}
+use Rattle.token_list.proofs.LinkLemmas.{walk-is, length-walk, times-row, slot-below, slot-before_end, before-below, before-at, next-at, linked-insert, linked-remove}
 
 pub length-order : (a : Inside) → length (order a) ≡ a.used
 length-order a = length-walk a.used a.next.value (get_or a.next.value 256 0)
@@ -21,12 +21,45 @@ standing-below a v r is s at = let h = subst (λ (w : Row). Stands w.slots s) (s
 pub before_slot-below : (a : Inside) (v : Row) → IsRing a → row a ≡ v → (s : ℕ) → Stands v.slots s → get_or a.previous.value s 0 < 257
 before_slot-below a v r is s at = let h = subst (λ (w : Row). Stands w.slots s) (sym is) at in before-below r.linked h.0 s h.1
 
+pub before_slot-stands : (a : Inside) (v : Row) → IsRing a → row a ≡ v → (p s : ℕ) → StandsAt v.slots (suc p) s → StandsAt v.slots p (get_or a.previous.value s 0)
+before_slot-stands a v r is p s at =
+    let h = subst (λ (w : Row). StandsAt w.slots (suc p) s) (sym is) at in
+    let within : p < length (order a) = omega (arith, h.below, length-append (order a) (256 ∷ [])) in
+    let there : StandsAt (order a ++ 256 ∷ []) p (get_or a.previous.value s 0) = record {
+      below = omega (arith, h.below);
+      is = get_or_append_left (order a) (256 ∷ []) 256 p within ∙ sym (before-at r.linked (suc p) s h);
+    } in
+    subst (λ (w : Row). StandsAt w.slots p (get_or a.previous.value s 0)) is there
+
+pub after_slot-stands : (a : Inside) (v : Row) → IsRing a → row a ≡ v → (p s : ℕ) → StandsAt v.slots p s → s < 256 → StandsAt v.slots (suc p) (get_or a.next.value s 0)
+after_slot-stands a v r is p s at below =
+    let h = subst (λ (w : Row). StandsAt w.slots p s) (sym is) at in
+    let place = slot-before_end (order a) p s h below in
+    let there : StandsAt (order a ++ 256 ∷ []) (suc p) (get_or a.next.value s 0) = record {
+      below = omega (arith, length-append (order a) (256 ∷ []));
+      is = sym (next-at r.linked p s h place);
+    } in
+    subst (λ (w : Row). StandsAt w.slots (suc p) (get_or a.next.value s 0)) is there
+
 pub after_slot-below : (a : Inside) (v : Row) → IsRing a → row a ≡ v → (s : ℕ) → Stands v.slots s → s < 256 → get_or a.next.value s 0 < 257
 after_slot-below a v r is s at below =
-    let h = subst (λ (w : Row). Stands w.slots s) (sym is) at in
-    let place = slot-before_end (order a) h.0 s h.1 below in
-    let read = next-at r.linked h.0 s h.1 place in
-    omega (arith, slot-below r.linked (suc h.0) (get_or a.next.value s 0) (record { below = omega (arith, length-append (order a) (256 ∷ [])); is = sym read }))
+    standing-below a v r is (get_or a.next.value s 0) (suc at.0, after_slot-stands a v r is at.0 s at.1 below)
+
+-- the first slot, or the end
+pub first_slot-stands : (a : Inside) (v : Row) → IsRing a → row a ≡ v → StandsAt v.slots 0 (get_or a.next.value 256 0)
+first_slot-stands a v r is =
+    let read : get_or a.next.value 256 0 ≡ get_or (order a ++ 256 ∷ []) 0 256 = ap (λ l. get_or l 0 256) r.linked.forward in
+    let there : StandsAt (order a ++ 256 ∷ []) 0 (get_or a.next.value 256 0) = record { below = omega (arith, length-append (order a) (256 ∷ [])); is = sym read } in
+    subst (λ (w : Row). StandsAt w.slots 0 (get_or a.next.value 256 0)) is there
+
+pub end-stands : (a : Inside) (v : Row) → row a ≡ v → (p : ℕ) → p + 1 ≡ length v.slots → StandsAt v.slots p 256
+end-stands a v is p h =
+    let size = ap (λ (w : Row). length w.slots) is in
+    let there : StandsAt (order a ++ 256 ∷ []) p 256 = record {
+      below = omega arith;
+      is = get_or_at (order a) 256 [] 256 p (omega (arith, length-append (order a) (256 ∷ [])));
+    } in
+    subst (λ (w : Row). StandsAt w.slots p 256) is there
 
 pub room-below : (a : Inside) (v : Row) → row a ≡ v → length v.slots ≤ 256 → a.used < 256
 room-below a v is h =

@@ -3,7 +3,7 @@
 ghost use Rattle.std.specs.Prelude.{◌≡◌, ◌≤◌, ◌<◌, ◌+◌, ◌∷◌, [], ℕ, length, IfOk, if◌then◌else◌, nat_lt};
 ghost use Rattle.std.specs.List.{insert, remove};
 ghost use Rattle.std.proofs.Common.{get_or, set};
-ghost use Rattle.token_list.specs.Slots.{Stands, StandsAt, slot_at, number_at, times};
+ghost use Rattle.token_list.specs.Slots.{Stands, StandsAt, number_at, times};
 
 use kern_ids::entries::NoMemory;
 use std::alloc::Global;
@@ -65,31 +65,37 @@ impl SlotRing {
 
     /// The first slot, or the end.
     pub fn first(&self) -> usize
-        ensures { result ≡ slot_at self.now.slots 0 }
+        ensures bound { result ≤ 256 }
+        ensures place { StandsAt self.now.slots 0 result }
     {
         self.next[END]
     }
 
-    /// The last slot, or the end.
+    /// The last slot.
     pub fn last(&self) -> usize
         requires { 1 < length self.now.slots }
-        ensures { (p : ℕ) → p + 2 ≡ length self.now.slots → result ≡ slot_at self.now.slots p }
+        ensures bound { result ≤ 256 }
+        ensures place { (p : ℕ) → p + 2 ≡ length self.now.slots → StandsAt self.now.slots p result }
     {
         self.previous[END]
     }
 
     /// The slot after another, or the end.
     pub fn after(&self, slot: usize) -> usize
-        requires { slot < 256 }
-        ensures { (p : ℕ) → StandsAt self.now.slots p slot → result ≡ slot_at self.now.slots (p + 1) }
+        requires slot { slot < 256 }
+        requires stands { Stands self.now.slots slot }
+        ensures bound { result ≤ 256 }
+        ensures place { (p : ℕ) → StandsAt self.now.slots p slot → StandsAt self.now.slots (p + 1) result }
     {
         self.next[slot]
     }
 
     /// The slot before another or before the end.
     pub fn before(&self, slot: usize) -> usize
-        requires { slot ≤ 256 }
-        ensures { (p : ℕ) → StandsAt self.now.slots (p + 1) slot → result ≡ slot_at self.now.slots p }
+        requires slot { slot ≤ 256 }
+        requires stands { Stands self.now.slots slot }
+        ensures bound { result ≤ 256 }
+        ensures place { (p : ℕ) → StandsAt self.now.slots (p + 1) slot → StandsAt self.now.slots p result }
     {
         self.previous[slot]
     }
