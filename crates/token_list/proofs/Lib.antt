@@ -4,3 +4,6 @@ pub mod EditLemmas
 pub mod LinkLemmas
 pub mod RingLemmas
 pub mod GapLemmas
+pub mod MarkLemmas
+pub mod TokenLemmas
+pub mod CallLemmas

@@ -3,7 +3,7 @@
 //! before it, so that a page that leaves changes one number.
 #![tactic(auto)]
 
-ghost use Rattle.std.specs.Prelude.{◌≡◌, ◌≤◌, ◌<◌, ◌+◌, ◌-◌, ◌^◌, ◌∷◌, ◌++◌, [], ℕ, length, slice_get, IfOk, All};
+ghost use Rattle.std.specs.Prelude.{◌≡◌, ◌≤◌, ◌<◌, ◌+◌, ◌-◌, ◌^◌, ◌∷◌, ◌++◌, [], ℕ, length, slice_get, IfOk, All, true, false};
 ghost use Rattle.std.specs.List.{remove};
 ghost use Rattle.std.specs.List.Sorted.{IsNonDecreasing};
 ghost use Rattle.std.proofs.Common.{set};
@@ -116,11 +116,7 @@ impl TokenList {
         let rest = self.ring.number(at) - gap;
         self.ring.set_number(at, rest);
         let slot = self.ring.insert_before(at, gap);
-        if due == 0 {
-            self.ripe += 1;
-        } else if place == self.ripe {
-            self.mark = slot;
-        }
+        mark_new(&mut self.ripe, &mut self.mark, place, slot, due == 0);
     }
 
     /// Drops the first token; answers its due.
@@ -134,11 +130,7 @@ impl TokenList {
         let slot = self.ring.first();
         let due = self.ring.number(slot);
         let after = take_out(&mut self.ring, slot);
-        if self.ripe > 0 {
-            self.ripe -= 1;
-        } else {
-            self.mark = after;
-        }
+        unmark(&mut self.ripe, &mut self.mark, 0, after);
         due
     }
 
@@ -154,11 +146,7 @@ impl TokenList {
         let due = self.ahead - self.ring.number(END);
         let slot = self.ring.last();
         let after = take_out(&mut self.ring, slot);
-        if self.ripe > place {
-            self.ripe = place;
-        } else if self.ripe == place {
-            self.mark = after;
-        }
+        unmark(&mut self.ripe, &mut self.mark, place, after);
         due
     }
 
@@ -216,4 +204,31 @@ fn take_out(ring: &mut SlotRing, slot: usize) -> usize
     ring.set_number(after, joined);
     ring.remove(slot);
     after
+}
+
+/// The mark once the token at a place has gone, and `after` stands there.
+fn unmark(ripe: &mut usize, mark: &mut usize, place: usize, after: usize)
+    ensures ripe_one { place < ripe.old → (ripe.new ≡ ripe.old - 1) × (mark.new ≡ mark.old) }
+    ensures first_unripe { place ≡ ripe.old → (ripe.new ≡ ripe.old) × (mark.new ≡ after) }
+    ensures later { ripe.old < place → (ripe.new ≡ ripe.old) × (mark.new ≡ mark.old) }
+{
+    if place < *ripe {
+        *ripe -= 1;
+    } else if place == *ripe {
+        *mark = after;
+    }
+}
+
+/// The mark once a token has come to a place behind all ripe ones.
+fn mark_new(ripe: &mut usize, mark: &mut usize, place: usize, slot: usize, is_ripe: bool)
+    requires { ripe.old < 2 ^ 32 }
+    ensures ripe_one { is_ripe ≡ true → (ripe.new ≡ ripe.old + 1) × (mark.new ≡ mark.old) }
+    ensures first_unripe { is_ripe ≡ false → place ≡ ripe.old → (ripe.new ≡ ripe.old) × (mark.new ≡ slot) }
+    ensures later { is_ripe ≡ false → ripe.old < place → (ripe.new ≡ ripe.old) × (mark.new ≡ mark.old) }
+{
+    if is_ripe {
+        *ripe += 1;
+    } else if place == *ripe {
+        *mark = slot;
+    }
 }
