@@ -1,15 +1,16 @@
 -- A list of tokens after one of its calls: a has the fields before, b those after.
-use Rattle.std.proofs.Common.{◌≡◌, ◌≢◌, ℕ, ◌+◌, ◌-◌, ◌^◌, ◌<◌, ◌≤◌, zero, suc, List, [], ◌∷◌, ◌++◌, length, get_or, take, drop, set, map, refl, ap, ap₂, sym, ◌∙◌, subst, inl, inr, arith, add-one}
+use Rattle.std.proofs.Common.{◌≡◌, ◌≢◌, ℕ, ◌+◌, ◌-◌, ◌^◌, ◌<◌, ◌≤◌, zero, suc, List, [], ◌∷◌, ◌++◌, length, get_or, take, drop, set, map, refl, ap, ap₂, sym, ◌∙◌, subst, inl, inr, Bool, true, false, leb, arith, add-one}
 use Rattle.std.specs.List.{insert, remove}
 use Rattle.std.proofs.lemmas.List.{length-set, length-append, get_or_past}
 use Rattle.std.proofs.lemmas.Bool.{cases_lt}
+use Rattle.std.proofs.lemmas.Bool.Decides.{nat_tests}
 use Rattle.std.proofs.lemmas.List.Edits.{length-insert, length-remove}
 use Rattle.token_list.specs.declared.TokenList.TheInside.{Inside}
 use Rattle.token_list.specs.Slots.{Row, StandsAt, slot_at, number_at}
-use Rattle.token_list.specs.Dues.{Tokens, lowered_by}
+use Rattle.token_list.specs.Dues.{Tokens, lowered_by, put_due}
 use Rattle.token_list.specs.Gaps.{running, dues_of, tokens_of, IsRow, IsMarked, IsTokens}
-use Rattle.token_list.proofs.MarkLemmas.{IsMarked-set, IsMarked-removed, IsMarked-inserted, joined, length-joined, sum_before}
-use Rattle.token_list.proofs.GapLemmas.{running-first, running-step, running-rises}
+use Rattle.token_list.proofs.MarkLemmas.{IsMarked-set, IsMarked-removed, IsMarked-inserted, joined, length-joined, sum_before, sum_before-first, sum_before-suc}
+use Rattle.token_list.proofs.GapLemmas.{running-first, running-step, running-rises, running-gap, running-zeros}
 use Rattle.token_list.proofs.TokenLemmas.{length-dues_of, end-row, Shows, shows-entered, shows-removed, shows-inserted, IsRow-set, IsRow-remove, IsRow-insert, gap-within, last-sum, due-sum}
 
 pub record Is (b : Inside) (ds : List ℕ) : Type 0 where
@@ -124,3 +125,100 @@ due-within a t p i view h =
     let gs = a.ring.numbers in
     omega (arith, due-sum gs a.ahead p i.total (omega (arith, i.row.size)), ap (λ ds. get_or ds p 0) (view-dues a t view), view-ahead a t view,
       running-rises 0 gs p (length gs - 1) (omega (arith, i.row.size)) (omega (arith, i.row.size)), last-sum gs a.ahead (length gs - 1) i.total (omega (arith, i.row.size)))
+
+-- a due at the place where it goes
+pub insert-put_due : (x : ℕ) (ds : List ℕ) (p : ℕ) → p ≤ length ds → ((i : ℕ) → i < p → get_or ds i 0 ≤ x) → (p < length ds → x < get_or ds p 0) → insert ds p x ≡ put_due x ds
+insert-put_due x [] zero h low high = refl
+insert-put_due x [] (suc p) h low high = absurd (omega arith)
+insert-put_due x (d ∷ ds) zero h low high =
+    let less = high (omega arith) in
+    let test : leb d x ≡ false = grind (arith, nat_tests) in
+    rw test refl
+insert-put_due x (d ∷ ds) (suc p) h low high =
+    let more = low 0 (omega arith) in
+    let test : leb d x ≡ true = grind (arith, nat_tests) in
+    rw test (ap (λ r. d ∷ r) (insert-put_due x ds p (omega arith) (λ i lt. low (suc i) (omega arith)) (λ lt. high (omega arith))))
+
+-- one place back
+pub record IsBack (gs : List ℕ) (p : ℕ) : Type 0 where
+  pub sum : get_or (running 0 gs) (p - 1) 0 ≡ sum_before gs p
+  pub gap : get_or gs (p - 1) 0 ≤ sum_before gs p
+  pub before : sum_before gs p - get_or gs (p - 1) 0 ≡ sum_before gs (p - 1)
+
+pub back : (gs : List ℕ) (p : ℕ) → 0 < p → p < length gs → IsBack gs p
+back gs zero some h = absurd (omega arith)
+back gs (suc p) some h =
+    let sum = sum_before-suc gs p h in
+    let one : suc p - 1 ≡ p = omega arith in
+    let gap = running-gap 0 gs p p (omega arith) (omega arith) in
+    record {
+      sum = rw one (sym sum);
+      gap = rw one (omega arith);
+      before = rw one (ap (λ x. x - get_or gs p 0) sum);
+    }
+
+pub sum_before-some : (gs : List ℕ) (p : ℕ) → 0 < sum_before gs p → 0 < p
+sum_before-some gs zero h = absurd (omega (arith, sum_before-first gs))
+sum_before-some gs (suc p) h = omega arith
+
+-- what `insert` finds: where the due goes
+pub record Finds (a : Inside) (t : Tokens) (p at due before : ℕ) : Type 0 where
+  pub tokens : IsTokens a
+  pub view : tokens_of a ≡ t
+  pub room : length t.dues < 256
+  pub within : due ≤ t.ahead
+  pub stands : StandsAt a.ring.slots p at
+  pub start : before ≡ sum_before a.ring.numbers p
+  pub after_less : before ≤ due
+  pub greater : p + 1 < length a.ring.numbers → due < get_or (running 0 a.ring.numbers) p 0
+
+pub gap-fits : (a : Inside) (t : Tokens) (p at due before : ℕ) → Finds a t p at due before → due - before ≤ get_or a.ring.numbers p 0
+gap-fits a t p at due before f =
+    let gs = a.ring.numbers in
+    let i = f.tokens in
+    let place : p < length gs = omega (arith, f.stands.below, i.row.size) in
+    let gap = running-gap 0 gs p p (omega arith) place in
+    elim (cases_lt (p + 1) (length gs)) as (λ _. due - before ≤ get_or gs p 0) [
+      | inl inner ↦ omega (arith, f.greater inner, f.start)
+      | inr last ↦ omega (arith, last-sum gs a.ahead p i.total (omega arith), view-ahead a t f.view, f.within, f.start)
+    ]
+
+pub inserted : (a b : Inside) (t : Tokens) (p at due before slot : ℕ) (is_ripe : Bool) → Finds a t p at due before → slot < 256
+    → b.ring.slots ≡ insert a.ring.slots p slot → b.ring.numbers ≡ insert (set a.ring.numbers p (get_or a.ring.numbers p 0 - (due - before))) p (due - before)
+    → (due ≡ 0 → is_ripe ≡ true) → (is_ripe ≡ true → due ≡ 0)
+    → (is_ripe ≡ true → (b.ripe ≡ a.ripe + 1) × (b.mark ≡ a.mark)) → (is_ripe ≡ false → p ≡ a.ripe → (b.ripe ≡ a.ripe) × (b.mark ≡ slot)) → (is_ripe ≡ false → a.ripe < p → (b.ripe ≡ a.ripe) × (b.mark ≡ a.mark))
+    → b.ahead ≡ a.ahead → Is b (put_due due t.dues)
+inserted a b t p at due before slot is_ripe f below slots_is numbers_is to from one here past ahead_is =
+    let gs = a.ring.numbers in
+    let i = f.tokens in
+    let size = length-tokens a t i f.view in
+    let row_size = i.row.size in
+    let place : p < length gs = omega (arith, f.stands.below) in
+    let fits = gap-fits a t p at due before f in
+    let shown = shows-inserted gs a.ahead p (due - before) i.total place fits in
+    let whole : sum_before gs p + (due - before) ≡ due = omega (arith, f.start, f.after_less) in
+    let seen = view-dues a t f.view in
+    let marked_before : a.ripe ≤ p = elim (cases_lt p a.ripe) as (λ _. a.ripe ≤ p) [
+      | inl lt ↦ absurd (omega (arith, f.greater (omega (arith, i.marked.stands.below)), running-zeros gs a.ripe i.marked.zeros p lt place))
+      | inr le ↦ le
+    ] in
+    let low : (j : ℕ) → j < p → get_or t.dues j 0 ≤ due = λ j lt.
+      let b = back gs p (omega arith) place in
+      omega (arith, ap (λ ds. get_or ds j 0) seen, due-sum gs a.ahead j i.total (omega arith), running-rises 0 gs j (p - 1) (omega arith) (omega arith), b.sum, f.start, f.after_less) in
+    let high : p < length t.dues → due < get_or t.dues p 0 = λ lt.
+      omega (arith, ap (λ ds. get_or ds p 0) seen, due-sum gs a.ahead p i.total (omega arith), f.greater (omega arith)) in
+    let m = IsMarked-inserted gs a.ring.slots a.mark a.ripe p slot (due - before) b.mark b.ripe is_ripe i.marked row_size place
+      (λ none. to (omega arith)) (λ yes. omega (arith, from yes)) marked_before one here past in
+    record {
+      dues =
+        ap dues_of numbers_is ∙ shown.dues
+        ∙ ap₂ (λ ds x. insert ds p x) seen whole
+        ∙ insert-put_due due t.dues p (omega arith) low high;
+      tokens = record {
+        row = IsRow-insert a.ring b.ring p slot i.row f.stands.below (omega (arith, f.room)) below slots_is
+          (ap length numbers_is ∙ length-insert (set gs p (get_or gs p 0 - (due - before))) p (due - before) (omega (arith, length-set gs p (get_or gs p 0 - (due - before)))) ∙ ap (λ n. n + 1) (length-set gs p (get_or gs p 0 - (due - before))));
+        total = rw (numbers_is, ahead_is) shown.total;
+        bound = omega (arith, i.bound);
+        marked = rw (numbers_is, slots_is) m;
+      };
+    }
