@@ -4,7 +4,7 @@ use Rattle.std.specs.List.{insert, remove}
 use Rattle.std.proofs.lemmas.List.{length-set, length-append, get_or_past}
 use Rattle.std.proofs.lemmas.Bool.{cases_lt}
 use Rattle.std.proofs.lemmas.Bool.Decides.{nat_tests}
-use Rattle.std.proofs.lemmas.List.Edits.{length-insert, length-remove}
+use Rattle.std.proofs.lemmas.List.Edits.{length-insert, length-remove, insert_end}
 use Rattle.token_list.specs.declared.TokenList.TheInside.{Inside}
 use Rattle.token_list.specs.Slots.{Row, StandsAt, slot_at, number_at}
 use Rattle.token_list.specs.Dues.{Tokens, lowered_by, put_due}
@@ -222,3 +222,8 @@ inserted a b t p at due before slot is_ripe f below slots_is numbers_is to from 
         marked = rw (numbers_is, slots_is) m;
       };
     }
+
+pub put_due-ahead : (a : Inside) (t : Tokens) → IsTokens a → tokens_of a ≡ t → put_due t.ahead t.dues ≡ t.dues ++ t.ahead ∷ []
+put_due-ahead a t i view =
+    sym (insert-put_due t.ahead t.dues (length t.dues) (omega arith) (λ p lt. due-within a t p i view lt) (λ lt. absurd (omega arith)))
+    ∙ insert_end t.dues t.ahead

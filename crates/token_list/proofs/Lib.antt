@@ -7,3 +7,4 @@ pub mod GapLemmas
 pub mod MarkLemmas
 pub mod TokenLemmas
 pub mod CallLemmas
+pub mod PassLemmas

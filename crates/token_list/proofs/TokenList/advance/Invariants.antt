@@ -1,12 +1,12 @@
-use Rattle.std.proofs.Common.{◌≡◌, ℕ, ◌+◌, ◌-◌, ◌<◌, ◌≤◌, length, get_or}
-use Rattle.std.specs.Prelude.{sum}
-use Rattle.token_list.specs.Slots.{StandsAt, number_at}
-use Rattle.token_list.specs.Gaps.{running, IsRow, IsMarked}
-use Rattle.token_list.proofs.GapLemmas.{lowered}
+use Rattle.std.proofs.Common.{◌≡◌, ℕ, ◌-◌, length}
+use Rattle.token_list.proofs.PassLemmas.{Passing}
 use Rattle.token_list.proofs.TokenList.advance.Given as goal
 
 abbrev pub decreases-loop-gap : goal.decreases-loop-gap
-decreases-loop-gap l = ?
+decreases-loop-gap l = length l.self-inside.ring.slots - l.self-inside.ripe
 
 abbrev pub invariant-loop-gap : goal.invariant-loop-gap
-invariant-loop-gap l = ?
+invariant-loop-gap l = record {
+  ahead : l.self-inside.ahead ≡ l.initial.self-inside.ahead;
+  passing : Passing l.initial.self-inside.ring.numbers l.n l.self-inside.ring l.self-inside.mark l.self-inside.ripe l.left l.gap;
+}
