@@ -1,17 +1,17 @@
 -- A list of tokens after one of its calls: a has the fields before, b those after.
-use Rattle.std.proofs.Common.{◌≡◌, ◌≢◌, ℕ, ◌+◌, ◌-◌, ◌^◌, ◌<◌, ◌≤◌, zero, suc, List, [], ◌∷◌, ◌++◌, length, get_or, take, drop, set, map, refl, ap, ap₂, sym, ◌∙◌, subst, inl, inr, Bool, true, false, leb, arith, add-one}
+use Rattle.std.proofs.Common.{◌≡◌, ℕ, ◌+◌, ◌-◌, ◌^◌, ◌<◌, ◌≤◌, zero, suc, List, [], ◌∷◌, ◌++◌, length, get_or, set, refl, ap, ap₂, sym, ◌∙◌, subst, inl, inr, Bool, true, false, leb, arith, add-one}
 use Rattle.std.specs.List.{insert, remove}
-use Rattle.std.proofs.lemmas.List.{length-set, length-append, get_or_past}
+use Rattle.std.proofs.lemmas.List.{length-set, get_or_past}
 use Rattle.std.proofs.lemmas.Bool.{cases_lt}
 use Rattle.std.proofs.lemmas.Bool.Decides.{nat_tests}
-use Rattle.std.proofs.lemmas.List.Edits.{length-insert, length-remove, insert_end}
+use Rattle.std.proofs.lemmas.List.Edits.{length-insert, insert_end}
 use Rattle.token_list.specs.declared.TokenList.TheInside.{Inside}
-use Rattle.token_list.specs.Slots.{Row, StandsAt, slot_at, number_at}
-use Rattle.token_list.specs.Dues.{Tokens, lowered_by, put_due}
-use Rattle.token_list.specs.Gaps.{running, dues_of, tokens_of, IsRow, IsMarked, IsTokens}
+use Rattle.token_list.specs.Slots.{StandsAt, number_at}
+use Rattle.token_list.specs.Dues.{Tokens, put_due}
+use Rattle.token_list.specs.Gaps.{running, dues_of, tokens_of, IsMarked, IsTokens}
 use Rattle.token_list.proofs.MarkLemmas.{IsMarked-set, IsMarked-removed, IsMarked-inserted, joined, length-joined, sum_before, sum_before-first, sum_before-suc}
 use Rattle.token_list.proofs.GapLemmas.{running-first, running-step, running-rises, running-gap, running-zeros}
-use Rattle.token_list.proofs.TokenLemmas.{length-dues_of, end-row, Shows, shows-entered, shows-removed, shows-inserted, IsRow-set, IsRow-remove, IsRow-insert, gap-within, last-sum, due-sum}
+use Rattle.token_list.proofs.TokenLemmas.{length-dues_of, end-row, shows-entered, shows-removed, shows-inserted, IsRow-set, IsRow-remove, IsRow-insert, gap-within, last-sum, due-sum}
 
 pub record Is (b : Inside) (ds : List ℕ) : Type 0 where
   pub tokens : IsTokens b
@@ -42,7 +42,7 @@ entered a b t rest n i view bound rest_is slots_is writes mark_is ripe_is ahead_
     let numbers_is : b.ring.numbers ≡ set gs last (get_or gs last 0 + n) = writes last end ∙ ap (λ x. set gs last (x + n)) (rest_is last end) in
     let s = shows-entered gs a.ahead n last i.total (omega arith) in
     let m : IsMarked (set gs last (get_or gs last 0 + n)) a.ring.slots a.mark a.ripe =
-        IsMarked-set gs a.ring.slots a.mark a.ripe last (get_or gs last 0 + n) i.marked (omega (arith, i.marked.stands.below)) (omega arith) (λ _ h. absurd (omega arith)) in
+    IsMarked-set gs a.ring.slots a.mark a.ripe last (get_or gs last 0 + n) i.marked (omega (arith, i.marked.stands.below)) (omega arith) (λ _ h. absurd (omega arith)) in
     record {
       dues = ap dues_of numbers_is ∙ s.dues ∙ view-dues a t view;
       tokens = record {
@@ -56,9 +56,9 @@ entered a b t rest n i view bound rest_is slots_is writes mark_is ripe_is ahead_
 -- any gap
 pub gap-below : (a : Inside) → IsTokens a → (p : ℕ) → get_or a.ring.numbers p 0 < 2 ^ 32
 gap-below a i p = elim (cases_lt p (length a.ring.numbers)) as (λ _. get_or a.ring.numbers p 0 < 2 ^ 32) [
-    | inl h ↦ omega (arith, gap-within a.ring.numbers a.ahead p i.total h, i.bound)
-    | inr past ↦ omega (arith, get_or_past a.ring.numbers p 0 past)
-  ]
+  | inl h ↦ omega (arith, gap-within a.ring.numbers a.ahead p i.total h, i.bound)
+  | inr past ↦ omega (arith, get_or_past a.ring.numbers p 0 past)
+]
 
 pub length-tokens : (a : Inside) (t : Tokens) → IsTokens a → tokens_of a ≡ t → length t.dues + 1 ≡ length a.ring.slots
 length-tokens a t i view = omega (arith, length-dues_of a.ring.numbers a.ahead i.total, ap length (view-dues a t view), i.row.size)
@@ -123,8 +123,14 @@ pub due-within : (a : Inside) (t : Tokens) (p : ℕ) → IsTokens a → tokens_o
 due-within a t p i view h =
     let size = length-tokens a t i view in
     let gs = a.ring.numbers in
-    omega (arith, due-sum gs a.ahead p i.total (omega (arith, i.row.size)), ap (λ ds. get_or ds p 0) (view-dues a t view), view-ahead a t view,
-      running-rises 0 gs p (length gs - 1) (omega (arith, i.row.size)) (omega (arith, i.row.size)), last-sum gs a.ahead (length gs - 1) i.total (omega (arith, i.row.size)))
+    omega (
+      arith,
+      due-sum gs a.ahead p i.total (omega (arith, i.row.size)),
+      ap (λ ds. get_or ds p 0) (view-dues a t view),
+      view-ahead a t view,
+      running-rises 0 gs p (length gs - 1) (omega (arith, i.row.size)) (omega (arith, i.row.size)),
+      last-sum gs a.ahead (length gs - 1) i.total (omega (arith, i.row.size)),
+    )
 
 -- a due at the place where it goes
 pub insert-put_due : (x : ℕ) (ds : List ℕ) (p : ℕ) → p ≤ length ds → ((i : ℕ) → i < p → get_or ds i 0 ≤ x) → (p < length ds → x < get_or ds p 0) → insert ds p x ≡ put_due x ds
@@ -203,20 +209,20 @@ inserted a b t p at due before slot is_ripe f below slots_is numbers_is to from 
       | inr le ↦ le
     ] in
     let low : (j : ℕ) → j < p → get_or t.dues j 0 ≤ due = λ j lt.
-      let b = back gs p (omega arith) place in
-      omega (arith, ap (λ ds. get_or ds j 0) seen, due-sum gs a.ahead j i.total (omega arith), running-rises 0 gs j (p - 1) (omega arith) (omega arith), b.sum, f.start, f.after_less) in
+    let b = back gs p (omega arith) place in
+    omega (arith, ap (λ ds. get_or ds j 0) seen, due-sum gs a.ahead j i.total (omega arith), running-rises 0 gs j (p - 1) (omega arith) (omega arith), b.sum, f.start, f.after_less) in
     let high : p < length t.dues → due < get_or t.dues p 0 = λ lt.
-      omega (arith, ap (λ ds. get_or ds p 0) seen, due-sum gs a.ahead p i.total (omega arith), f.greater (omega arith)) in
+    omega (arith, ap (λ ds. get_or ds p 0) seen, due-sum gs a.ahead p i.total (omega arith), f.greater (omega arith)) in
     let m = IsMarked-inserted gs a.ring.slots a.mark a.ripe p slot (due - before) b.mark b.ripe is_ripe i.marked row_size place
-      (λ none. to (omega arith)) (λ yes. omega (arith, from yes)) marked_before one here past in
+    (λ none. to (omega arith)) (λ yes. omega (arith, from yes)) marked_before one here past in
     record {
       dues =
-        ap dues_of numbers_is ∙ shown.dues
-        ∙ ap₂ (λ ds x. insert ds p x) seen whole
-        ∙ insert-put_due due t.dues p (omega arith) low high;
+          ap dues_of numbers_is ∙ shown.dues
+          ∙ ap₂ (λ ds x. insert ds p x) seen whole
+          ∙ insert-put_due due t.dues p (omega arith) low high;
       tokens = record {
         row = IsRow-insert a.ring b.ring p slot i.row f.stands.below (omega (arith, f.room)) below slots_is
-          (ap length numbers_is ∙ length-insert (set gs p (get_or gs p 0 - (due - before))) p (due - before) (omega (arith, length-set gs p (get_or gs p 0 - (due - before)))) ∙ ap (λ n. n + 1) (length-set gs p (get_or gs p 0 - (due - before))));
+            (ap length numbers_is ∙ length-insert (set gs p (get_or gs p 0 - (due - before))) p (due - before) (omega (arith, length-set gs p (get_or gs p 0 - (due - before)))) ∙ ap (λ n. n + 1) (length-set gs p (get_or gs p 0 - (due - before))));
         total = rw (numbers_is, ahead_is) shown.total;
         bound = omega (arith, i.bound);
         marked = rw (numbers_is, slots_is) m;

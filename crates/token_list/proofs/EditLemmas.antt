@@ -1,5 +1,5 @@
 -- An edit next to a place that has been written.
-use Rattle.std.proofs.Common.{◌≡◌, ℕ, ◌<◌, ◌+◌, zero, suc, List, [], ◌∷◌, ◌++◌, length, get_or, take, drop, set, refl, ap, arith}
+use Rattle.std.proofs.Common.{◌≡◌, ℕ, ◌<◌, zero, suc, List, [], ◌∷◌, length, get_or, set, refl, ap, arith}
 use Rattle.std.specs.List.{insert, remove}
 
 pub insert-set_after : {X : Type 0} (xs : List X) (p : ℕ) (y d : X) → p < length xs → insert (set xs p y) (suc p) (get_or xs p d) ≡ insert xs p y

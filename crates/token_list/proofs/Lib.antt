@@ -8,3 +8,4 @@ pub mod MarkLemmas
 pub mod TokenLemmas
 pub mod CallLemmas
 pub mod PassLemmas
+pub mod CountLemmas

@@ -1,5 +1,5 @@
 -- Slots that links lead through, after one is linked in or out.
-use Rattle.std.proofs.Common.{◌≡◌, ◌≢◌, ℕ, ◌+◌, ◌<◌, ◌≤◌, zero, suc, List, [], ◌∷◌, ◌++◌, length, get_or, take, drop, set, cond, eqb, refl, ap, ap₂, sym, ◌∙◌, map, inl, inr, arith}
+use Rattle.std.proofs.Common.{◌≡◌, ◌≢◌, ℕ, ◌<◌, ◌≤◌, zero, suc, List, [], ◌∷◌, ◌++◌, length, get_or, set, refl, ap, ap₂, sym, ◌∙◌, inl, inr, arith}
 use Rattle.std.specs.List.{insert, remove}
 use Rattle.std.proofs.lemmas.Bool.{cases_lt}
 use Rattle.std.proofs.lemmas.Bool.Decides.{nat_tests}
@@ -79,19 +79,19 @@ linked-insert next previous ss free k l next_size previous_size p at here before
       forward =
           reads-insert (set (set next before k) k at) (256 ∷ ss) (suc p) k
           ∙ ap₂ (λ r x. insert r (suc p) x)
-              (reads-set-absent (set next before k) k at (256 ∷ ss) (grind (arith, nat_tests))
-                ∙ reads-set next before k (256 ∷ ss) p 256 (omega arith) (omega arith) before_is before_once
-                ∙ ap (λ r. set r p k) l.forward)
-              (get_or-set_same (set next before k) k at 0 (omega (arith, length-set next before k)) ∙ sym here.is)
+          (reads-set-absent (set next before k) k at (256 ∷ ss) (grind (arith, nat_tests))
+          ∙ reads-set next before k (256 ∷ ss) p 256 (omega arith) (omega arith) before_is before_once
+          ∙ ap (λ r. set r p k) l.forward)
+          (get_or-set_same (set next before k) k at 0 (omega (arith, length-set next before k)) ∙ sym here.is)
           ∙ insert-set_after (ss ++ 256 ∷ []) p k 256 here.below
           ∙ row;
       backward =
           ap (reads (set (set previous k before) at k)) (sym row)
           ∙ reads-insert (set (set previous k before) at k) (ss ++ 256 ∷ []) p k
           ∙ ap₂ (λ r x. insert r p x)
-              (reads-set (set previous k before) at k (ss ++ 256 ∷ []) p 256 (omega (arith, length-set previous k before)) here.below here.is (times-row l at)
-                ∙ ap (λ r. set r p k) (reads-set-absent previous k before (ss ++ 256 ∷ []) fresh_row ∙ l.backward))
-              (get_or-set_other (set previous k before) at k k 0 apart ∙ get_or-set_same previous k before 0 (omega arith) ∙ sym before_is)
+          (reads-set (set previous k before) at k (ss ++ 256 ∷ []) p 256 (omega (arith, length-set previous k before)) here.below here.is (times-row l at)
+          ∙ ap (λ r. set r p k) (reads-set-absent previous k before (ss ++ 256 ∷ []) fresh_row ∙ l.backward))
+          (get_or-set_other (set previous k before) at k k 0 apart ∙ get_or-set_same previous k before 0 (omega arith) ∙ sym before_is)
           ∙ insert-set_before (256 ∷ ss) p k 256 (omega arith);
       once = λ v. omega (arith, times-insert v ss p k, l.once v);
     }
@@ -112,16 +112,16 @@ linked-remove next previous ss free l next_size previous_size p k here slot befo
       forward =
           reads-remove (set next before after) (256 ∷ ss) (suc p)
           ∙ ap (λ r. remove r (suc p))
-              (reads-set next before after (256 ∷ ss) p 256 (omega arith) (omega arith) before_is before_once
-                ∙ ap₂ (λ r x. set r p x) l.forward (sym after_is))
+          (reads-set next before after (256 ∷ ss) p 256 (omega arith) (omega arith) before_is before_once
+          ∙ ap₂ (λ r x. set r p x) l.forward (sym after_is))
           ∙ remove-set_after (ss ++ 256 ∷ []) p 256 (omega arith)
           ∙ row;
       backward =
           ap (reads (set previous after before)) (sym row)
           ∙ reads-remove (set previous after before) (ss ++ 256 ∷ []) p
           ∙ ap (λ r. remove r p)
-              (reads-set previous after before (ss ++ 256 ∷ []) (suc p) 256 (omega arith) (omega arith) after_is (times-row l after)
-                ∙ ap₂ (λ r x. set r (suc p) x) l.backward (sym before_is))
+          (reads-set previous after before (ss ++ 256 ∷ []) (suc p) 256 (omega arith) (omega arith) after_is (times-row l after)
+          ∙ ap₂ (λ r x. set r (suc p) x) l.backward (sym before_is))
           ∙ remove-set_before (256 ∷ ss) p 256 (omega arith);
       once = λ v. omega (arith, rw place_is at (times-remove v ss p 256 place), l.once v);
     }

@@ -1,12 +1,12 @@
 -- The mark at the first gap that isn't 0, after a change of the gaps.
-use Rattle.std.proofs.Common.{◌≡◌, ◌≢◌, ℕ, ◌+◌, ◌-◌, ◌<◌, ◌≤◌, zero, suc, List, [], ◌∷◌, ◌++◌, length, get_or, take, drop, set, refl, ap, ap₂, sym, ◌∙◌, subst, inl, inr, Bool, true, false, arith}
+use Rattle.std.proofs.Common.{◌≡◌, ℕ, ◌+◌, ◌-◌, ◌<◌, ◌≤◌, zero, suc, List, length, get_or, set, refl, ap, sym, ◌∙◌, subst, inl, inr, Bool, true, false, arith}
 use Rattle.std.specs.List.{insert, remove}
 use Rattle.std.proofs.lemmas.Bool.{cases_lt, false≢true}
 use Rattle.std.proofs.lemmas.List.{get_or-set_other, get_or-set_same, length-set}
 use Rattle.std.proofs.lemmas.List.Edits.{get_or-insert_below, get_or-insert_at, get_or-insert_above, get_or-remove_below, get_or-remove_above, length-insert, length-remove}
-use Rattle.token_list.specs.Slots.{Row, StandsAt, slot_at, number_at}
-use Rattle.token_list.specs.Gaps.{running, dues_of, IsRow, IsMarked}
-use Rattle.token_list.proofs.GapLemmas.{length-running, running-gap, running-step, running-first, running-zeros}
+use Rattle.token_list.specs.Slots.{StandsAt}
+use Rattle.token_list.specs.Gaps.{running, IsMarked}
+use Rattle.token_list.proofs.GapLemmas.{running-gap, running-step, running-first, running-zeros}
 
 -- a gap at the mark or behind it has changed
 pub IsMarked-set : (gs ss : List ℕ) (mark ripe q x : ℕ) → IsMarked gs ss mark ripe → ripe ≤ q → q < length gs → (q ≡ ripe → q + 1 < length gs → 0 < x) → IsMarked (set gs q x) ss mark ripe
@@ -14,14 +14,14 @@ IsMarked-set gs ss mark ripe q x m le h some = record {
   stands = m.stands;
   zeros = λ p lt. get_or-set_other gs q p x 0 (omega arith) ∙ m.zeros p lt;
   unripe = λ lt.
-    let size = length-set gs q x in
-    elim (cases_lt ripe q) as (λ _. 0 < get_or (set gs q x) ripe 0) [
-      | inl before ↦ omega (arith, get_or-set_other gs q ripe x 0 (omega arith), m.unripe (omega arith))
-      | inr past ↦
-          let here : q ≡ ripe = omega arith in
-          let read : get_or (set gs q x) ripe 0 ≡ x = ap (λ k. get_or (set gs q x) k 0) (sym here) ∙ get_or-set_same gs q x 0 h in
-          omega (arith, some here (omega arith))
-    ];
+      let size = length-set gs q x in
+      elim (cases_lt ripe q) as (λ _. 0 < get_or (set gs q x) ripe 0) [
+        | inl before ↦ omega (arith, get_or-set_other gs q ripe x 0 (omega arith), m.unripe (omega arith))
+        | inr past ↦
+            let here : q ≡ ripe = omega arith in
+            let read : get_or (set gs q x) ripe 0 ≡ x = ap (λ k. get_or (set gs q x) k 0) (sym here) ∙ get_or-set_same gs q x 0 h in
+            omega (arith, some here (omega arith))
+      ];
 }
 
 -- the sum of the gaps before a place
@@ -50,7 +50,7 @@ pub IsMarked-insert_past : (gs ss : List ℕ) (mark ripe p k x d : ℕ) → IsMa
 IsMarked-insert_past gs ss mark ripe p k x d m size lt h =
     let whole = length-set gs p x in
     let below : (i : ℕ) → i < p → get_or (insert (set gs p x) p d) i 0 ≡ get_or gs i 0 =
-        λ i lt. get_or-insert_below (set gs p x) p d 0 i lt (omega arith) ∙ get_or-set_other gs p i x 0 (omega arith) in
+    λ i lt. get_or-insert_below (set gs p x) p d 0 i lt (omega arith) ∙ get_or-set_other gs p i x 0 (omega arith) in
     record {
       stands = record {
         below = omega (arith, length-insert ss p k (omega arith), m.stands.below);
@@ -92,8 +92,8 @@ IsMarked-insert_ripe gs ss mark ripe k m size =
             ap (λ j. get_or (insert (set gs ripe x) ripe 0) j 0) here ∙ get_or-insert_at (set gs ripe x) ripe 0 0 (omega arith)
       ];
       unripe = λ lt.
-        let read = get_or-insert_above (set gs ripe x) ripe 0 0 ripe (omega arith) (omega arith) in
-        omega (arith, read, get_or-set_same gs ripe x 0 (omega arith), m.unripe (omega (arith, length-insert (set gs ripe x) ripe 0 (omega arith))));
+          let read = get_or-insert_above (set gs ripe x) ripe 0 0 ripe (omega arith) (omega arith) in
+          omega (arith, read, get_or-set_same gs ripe x 0 (omega arith), m.unripe (omega (arith, length-insert (set gs ripe x) ripe 0 (omega arith))));
     }
 
 -- a gap goes into the one after it, and its slot goes
@@ -158,26 +158,26 @@ IsMarked-remove_ripe gs ss mark ripe p m size lt h =
       zeros = λ i before. elim (cases_lt i p) as (λ _. get_or (joined gs p) i 0 ≡ 0) [
         | inl under ↦ joined-below gs p i under h ∙ m.zeros i (omega arith)
         | inr past ↦ elim (cases_lt p i) as (λ _. get_or (joined gs p) i 0 ≡ 0) [
-            | inl over ↦ joined-above gs p i over h ∙ m.zeros (i + 1) (omega arith)
-            | inr same ↦
-                let here : i ≡ p = omega arith in
-                ap (λ j. get_or (joined gs p) j 0) here ∙ joined-at gs p h ∙ omega (arith, m.zeros p lt, m.zeros (p + 1) (omega arith))
-          ]
+          | inl over ↦ joined-above gs p i over h ∙ m.zeros (i + 1) (omega arith)
+          | inr same ↦
+              let here : i ≡ p = omega arith in
+              ap (λ j. get_or (joined gs p) j 0) here ∙ joined-at gs p h ∙ omega (arith, m.zeros p lt, m.zeros (p + 1) (omega arith))
+        ]
       ];
       unripe = λ room.
-        let size' = length-joined gs p h in
-        let was = m.unripe (omega arith) in
-        elim (cases_lt p (ripe - 1)) as (λ _. 0 < get_or (joined gs p) (ripe - 1) 0) [
-          | inl over ↦
-              let read : get_or (joined gs p) (ripe - 1) 0 ≡ get_or gs ripe 0 = joined-above gs p (ripe - 1) over h ∙ ap (λ i. get_or gs i 0) one_more in
-              omega arith
-          | inr same ↦
-              let here : ripe - 1 ≡ p = omega arith in
-              let next : p + 1 ≡ ripe = omega arith in
-              let read : get_or (joined gs p) (ripe - 1) 0 ≡ get_or gs p 0 + get_or gs ripe 0 =
-                  ap (λ j. get_or (joined gs p) j 0) here ∙ joined-at gs p h ∙ ap (λ i. get_or gs p 0 + get_or gs i 0) next in
-              omega arith
-        ];
+          let size' = length-joined gs p h in
+          let was = m.unripe (omega arith) in
+          elim (cases_lt p (ripe - 1)) as (λ _. 0 < get_or (joined gs p) (ripe - 1) 0) [
+            | inl over ↦
+                let read : get_or (joined gs p) (ripe - 1) 0 ≡ get_or gs ripe 0 = joined-above gs p (ripe - 1) over h ∙ ap (λ i. get_or gs i 0) one_more in
+                omega arith
+            | inr same ↦
+                let here : ripe - 1 ≡ p = omega arith in
+                let next : p + 1 ≡ ripe = omega arith in
+                let read : get_or (joined gs p) (ripe - 1) 0 ≡ get_or gs p 0 + get_or gs ripe 0 =
+                ap (λ j. get_or (joined gs p) j 0) here ∙ joined-at gs p h ∙ ap (λ i. get_or gs p 0 + get_or gs i 0) next in
+                omega arith
+          ];
     }
 
 -- the mark after the token at place p has gone, by the clauses of `unmark`
@@ -189,12 +189,12 @@ IsMarked-removed gs ss mark ripe p after mark' ripe' m size h next one here past
     elim (cases_lt p ripe) as (λ _. P mark' ripe') [
       | inl lt ↦ rw ((one lt).0, (one lt).1) (IsMarked-remove_ripe gs ss mark ripe p m size lt h)
       | inr le ↦ elim (cases_lt ripe p) as (λ _. P mark' ripe') [
-          | inl lt ↦ rw ((past lt).0, (past lt).1) (IsMarked-remove_past gs ss mark ripe p m size lt h)
-          | inr same ↦
-              let is : p ≡ ripe = omega arith in
-              let there = subst (λ q. StandsAt ss (q + 1) after) is next in
-              rw ((here is).0, (here is).1) (subst (λ q. IsMarked (joined gs q) (remove ss q) after ripe) (sym is) (IsMarked-remove_here gs ss mark ripe after m size there (omega arith)))
-        ]
+        | inl lt ↦ rw ((past lt).0, (past lt).1) (IsMarked-remove_past gs ss mark ripe p m size lt h)
+        | inr same ↦
+            let is : p ≡ ripe = omega arith in
+            let there = subst (λ q. StandsAt ss (q + 1) after) is next in
+            rw ((here is).0, (here is).1) (subst (λ q. IsMarked (joined gs q) (remove ss q) after ripe) (sym is) (IsMarked-remove_here gs ss mark ripe after m size there (omega arith)))
+      ]
     ]
 
 -- the mark after a token has come to place p, by the clauses of `mark_new`

@@ -1,5 +1,5 @@
 -- The walk of `advance` over the tokens that become ripe.
-use Rattle.std.proofs.Common.{◌≡◌, ◌≢◌, ℕ, ◌+◌, ◌-◌, ◌<◌, ◌≤◌, zero, suc, List, [], ◌∷◌, length, get_or, set, ◌⊎◌, refl, ap, ap₂, sym, ◌∙◌, subst, inl, inr, arith, add-one}
+use Rattle.std.proofs.Common.{◌≡◌, ◌≢◌, ℕ, ◌+◌, ◌-◌, ◌<◌, ◌≤◌, zero, suc, List, [], ◌∷◌, length, get_or, set, ◌⊎◌, refl, ap, ap₂, sym, ◌∙◌, subst, inl, inr, arith}
 use Rattle.std.proofs.lemmas.Bool.{cases_lt}
 use Rattle.std.proofs.lemmas.List.{length-set, get_or-set_other, get_or-set_same}
 use Rattle.token_list.specs.declared.TokenList.TheInside.{Inside}
@@ -7,7 +7,6 @@ use Rattle.token_list.specs.Slots.{Row, StandsAt, number_at}
 use Rattle.token_list.specs.Dues.{Tokens, lowered_by}
 use Rattle.token_list.specs.Gaps.{running, dues_of, tokens_of, IsRow, IsMarked, IsTokens}
 use Rattle.token_list.proofs.GapLemmas.{lowered, lowered-step, lowered-end, running-zeros, running-step, running-first}
-use Rattle.token_list.proofs.MarkLemmas.{sum_before, sum_before-first, sum_before-suc}
 use Rattle.token_list.proofs.TokenLemmas.{IsRow-set, last-sum, shows-lowered}
 use Rattle.token_list.proofs.CallLemmas.{Is, view-dues, view-ahead}
 
@@ -49,11 +48,11 @@ passing-first a t n gap i view le is = record {
 -- a mark that isn't the end stands before it
 pub mark-below : (v : Row) (mark ripe : ℕ) → IsRow v → StandsAt v.slots ripe mark → mark ≢ 256 → ripe + 1 < length v.slots
 mark-below v mark ripe r at other = elim (cases_lt (ripe + 1) (length v.slots)) as (λ _. ripe + 1 < length v.slots) [
-    | inl h ↦ h
-    | inr past ↦
-        let last : ripe ≡ length v.slots - 1 = omega (arith, at.below) in
-        absurd (other (sym at.is ∙ ap (λ p. get_or v.slots p 256) last ∙ r.end))
-  ]
+  | inl h ↦ h
+  | inr past ↦
+      let last : ripe ≡ length v.slots - 1 = omega (arith, at.below) in
+      absurd (other (sym at.is ∙ ap (λ p. get_or v.slots p 256) last ∙ r.end))
+]
 
 pub passing-step : {first : List ℕ} {n : ℕ} {v : Row} {mark ripe left gap : ℕ} → Passing first n v mark ripe left gap → gap ≤ left → mark ≢ 256
     → (w : Row) → w.slots ≡ v.slots → ((p : ℕ) → StandsAt v.slots p mark → w.numbers ≡ set v.numbers p 0)
@@ -108,18 +107,18 @@ advanced a b t n v mark ripe left gap i view g stop slots writes mark_is ripe_is
     let place : ripe < length gs = omega (arith, g.row.size, g.stands.below) in
     let le = passing-end g stop in
     let all : b.ring.numbers ≡ lowered n a.ring.numbers =
-        numbers ∙ ap (λ x. set gs ripe (x - left)) g.gap_is ∙ lowered-end left gs ripe place g.zeros (omega (arith, g.gap_is)) ∙ g.rest in
+    numbers ∙ ap (λ x. set gs ripe (x - left)) g.gap_is ∙ lowered-end left gs ripe place g.zeros (omega (arith, g.gap_is)) ∙ g.rest in
     let shown = shows-lowered a.ring.numbers a.ahead n i.total in
     let size = length-set gs ripe (gap - left) in
     let m : IsMarked (set gs ripe (gap - left)) v.slots mark ripe = record {
       stands = g.stands;
       zeros = λ p lt. get_or-set_other gs ripe p (gap - left) 0 (omega arith) ∙ g.zeros p lt;
       unripe = λ inner.
-        let some : left < gap = elim stop as (λ _. left < gap) [
-          | inl lt ↦ lt
-          | inr end ↦ absurd (omega (arith, g.row.below ripe (omega (arith, g.row.size)), g.stands.is))
-        ] in
-        omega (arith, get_or-set_same gs ripe (gap - left) 0 place);
+          let some : left < gap = elim stop as (λ _. left < gap) [
+            | inl lt ↦ lt
+            | inr end ↦ absurd (omega (arith, g.row.below ripe (omega (arith, g.row.size)), g.stands.is))
+          ] in
+          omega (arith, get_or-set_same gs ripe (gap - left) 0 place);
     } in
     record {
       dues = ap dues_of all ∙ shown.dues ∙ ap (lowered_by n) (view-dues a t view);

@@ -1,15 +1,15 @@
 -- A ring of slots after one of its calls: the fields before are a's, those after are b's.
-use Rattle.std.proofs.Common.{◌≡◌, ◌≢◌, ℕ, ◌+◌, ◌-◌, ◌<◌, ◌≤◌, zero, suc, List, [], ◌∷◌, ◌++◌, length, get_or, take, drop, set, cond, eqb, refl, ap, ap₂, sym, ◌∙◌, subst, arith, add-one}
+use Rattle.std.proofs.Common.{◌≡◌, ℕ, ◌+◌, ◌-◌, ◌<◌, ◌≤◌, suc, [], ◌∷◌, ◌++◌, length, get_or, drop, set, ap, ap₂, sym, ◌∙◌, subst, arith}
 use Rattle.std.specs.List.{insert, remove}
 use Rattle.std.proofs.lemmas.Bool.Decides.{nat_tests}
 use Rattle.std.proofs.lemmas.List.{get_or-set_same, get_or_append_left, get_or_at, length-append, length-set, drop_more, drop-set}
 use Rattle.std.proofs.lemmas.List.Edits.{insert-append_left, remove-append_left, length-insert, length-remove}
 use Rattle.token_list.specs.declared.slot_ring.SlotRing.TheInside.{Inside}
 use Rattle.token_list.specs.Slots.{Row, times, reads, IsLinked, StandsAt, Stands}
-use Rattle.token_list.specs.Ring.{walk, order, row, IsRing}
+use Rattle.token_list.specs.Ring.{order, row, IsRing}
 use Rattle.token_list.proofs.TimesLemmas.{times-append}
-use Rattle.token_list.proofs.ReadLemmas.{reads-insert, reads-remove, reads-set-absent, reads-set}
-use Rattle.token_list.proofs.LinkLemmas.{walk-is, length-walk, times-row, slot-below, slot-before_end, before-below, before-at, next-at, linked-insert, linked-remove}
+use Rattle.token_list.proofs.ReadLemmas.{reads-insert, reads-remove, reads-set-absent}
+use Rattle.token_list.proofs.LinkLemmas.{walk-is, length-walk, slot-below, slot-before_end, before-below, before-at, next-at, linked-insert, linked-remove}
 
 pub length-order : (a : Inside) → length (order a) ≡ a.used
 length-order a = length-walk a.used a.next.value (get_or a.next.value 256 0)
@@ -106,19 +106,19 @@ inserted {a} {b} {v} {at} {k} {before} {number} i p there =
     let used_size = length-order a in
     let place : p ≤ length (order a) = omega (arith, here.below) in
     let free : drop a.used a.free.value ≡ k ∷ drop (a.used + 1) a.free.value =
-        drop_more a.free.value a.used 0 (omega (arith, r.free_size)) ∙ ap (λ x. x ∷ drop (a.used + 1) a.free.value) (sym k_is) in
+    drop_more a.free.value a.used 0 (omega (arith, r.free_size)) ∙ ap (λ x. x ∷ drop (a.used + 1) a.free.value) (sym k_is) in
     let old : IsLinked a.next.value a.previous.value (order a) (k ∷ drop (a.used + 1) a.free.value) =
-        subst (λ f. IsLinked a.next.value a.previous.value (order a) f) free r.linked in
+    subst (λ f. IsLinked a.next.value a.previous.value (order a) f) free r.linked in
     let new = linked-insert a.next.value a.previous.value (order a) (drop (a.used + 1) a.free.value) k old r.next_size r.previous_size p at here before before_is in
     let forward : reads b.next.value (256 ∷ insert (order a) p k) ≡ insert (order a) p k ++ 256 ∷ [] = ap (λ n. reads n (256 ∷ insert (order a) p k)) next_is ∙ new.forward in
     let order_is : order b ≡ insert (order a) p k =
-        walk-is b.next.value 256 (insert (order a) p k) 256 b.used forward (omega (arith, length-insert (order a) p k place)) in
+    walk-is b.next.value 256 (insert (order a) p k) 256 b.used forward (omega (arith, length-insert (order a) p k place)) in
     let row_is : order b ++ 256 ∷ [] ≡ insert (order a ++ 256 ∷ []) p k =
-        ap (λ o. o ++ 256 ∷ []) order_is ∙ sym (insert-append_left (order a) (256 ∷ []) p k place) in
+    ap (λ o. o ++ 256 ∷ []) order_is ∙ sym (insert-append_left (order a) (256 ∷ []) p k place) in
     let fresh : times k (order a ++ 256 ∷ []) ≡ 0 = grind (arith, nat_tests, times-append k (order a) (256 ∷ []), old.once k) in
     let below : k < 256 = grind (arith, nat_tests, old.once k) in
     let linked : IsLinked b.next.value b.previous.value (order b) (drop b.used b.free.value) =
-        rw (order_is, next_is, previous_is, free_is, used_is) new in
+    rw (order_is, next_is, previous_is, free_is, used_is) new in
     record {
       ring = record {
         bound = omega arith;
@@ -133,7 +133,7 @@ inserted {a} {b} {v} {at} {k} {before} {number} i p there =
           ap₂ reads numbers_is row_is
           ∙ reads-insert (set a.numbers.value k number) (order a ++ 256 ∷ []) p k
           ∙ ap₂ (λ r x. insert r p x) (reads-set-absent a.numbers.value k number (order a ++ 256 ∷ []) fresh)
-              (get_or-set_same a.numbers.value k number 0 (omega (arith, r.numbers_size)))
+          (get_or-set_same a.numbers.value k number 0 (omega (arith, r.numbers_size)))
           ∙ ap (λ (w : Row). insert w.numbers p number) i.view;
     }
 
@@ -172,14 +172,14 @@ removed {a} {b} {v} {k} {before} {after} i p there =
     let new = linked-remove a.next.value a.previous.value (order a) (drop a.used a.free.value) r.linked r.next_size r.previous_size p k here below before after before_is after_is in
     let forward : reads b.next.value (256 ∷ remove (order a) p) ≡ remove (order a) p ++ 256 ∷ [] = ap (λ n. reads n (256 ∷ remove (order a) p)) next_is ∙ new.forward in
     let order_is : order b ≡ remove (order a) p =
-        walk-is b.next.value 256 (remove (order a) p) 256 b.used forward (omega (arith, length-remove (order a) p place)) in
+    walk-is b.next.value 256 (remove (order a) p) 256 b.used forward (omega (arith, length-remove (order a) p place)) in
     let row_is : order b ++ 256 ∷ [] ≡ remove (order a ++ 256 ∷ []) p =
-        ap (λ o. o ++ 256 ∷ []) order_is ∙ sym (remove-append_left (order a) (256 ∷ []) p place) in
+    ap (λ o. o ++ 256 ∷ []) order_is ∙ sym (remove-append_left (order a) (256 ∷ []) p place) in
     let one_more : a.used - 1 + 1 ≡ a.used = omega arith in
     let free : drop (a.used - 1) (set a.free.value (a.used - 1) k) ≡ k ∷ drop a.used a.free.value =
-        drop-set a.free.value (a.used - 1) k (omega (arith, r.bound, r.free_size)) ∙ ap (λ n. k ∷ drop n a.free.value) one_more in
+    drop-set a.free.value (a.used - 1) k (omega (arith, r.bound, r.free_size)) ∙ ap (λ n. k ∷ drop n a.free.value) one_more in
     let linked : IsLinked b.next.value b.previous.value (order b) (drop b.used b.free.value) =
-        rw (order_is, next_is, previous_is, free_is, used_is, free) new in
+    rw (order_is, next_is, previous_is, free_is, used_is, free) new in
     record {
       ring = record {
         bound = omega (arith, r.bound);

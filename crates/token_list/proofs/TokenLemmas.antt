@@ -1,14 +1,14 @@
 -- A list of tokens after one of its calls: v is its row before, w that after.
-use Rattle.std.proofs.Common.{◌≡◌, ◌≢◌, ℕ, ◌+◌, ◌-◌, ◌<◌, ◌≤◌, zero, suc, List, [], ◌∷◌, ◌++◌, length, get_or, take, drop, set, map, refl, ap, ap₂, sym, ◌∙◌, subst, inl, inr, arith, add-one}
+use Rattle.std.proofs.Common.{◌≡◌, ℕ, ◌+◌, ◌-◌, ◌<◌, ◌≤◌, List, [], ◌∷◌, ◌++◌, length, get_or, set, map, ap, ap₂, sym, ◌∙◌, inl, inr, arith, add-one}
 use Rattle.std.specs.List.{insert, remove}
 use Rattle.std.proofs.lemmas.Bool.{cases_lt}
-use Rattle.std.proofs.lemmas.List.{get_or-set_other, get_or-set_same, length-set, length-append, length-map, set_at, map-append, get_or_append_left, get_or_at}
+use Rattle.std.proofs.lemmas.List.{length-append, set_at, map-append, get_or_append_left, get_or_at}
 use Rattle.std.proofs.lemmas.List.Edits.{get_or-insert_below, get_or-insert_at, get_or-insert_above, get_or-remove_below, get_or-remove_above, length-insert, length-remove, insert-append_left, remove-append_left}
-use Rattle.token_list.specs.Slots.{Row, StandsAt, slot_at, number_at}
+use Rattle.token_list.specs.Slots.{Row, StandsAt, slot_at}
 use Rattle.token_list.specs.Dues.{lowered_by}
-use Rattle.token_list.specs.Gaps.{running, dues_of, IsRow, IsMarked}
+use Rattle.token_list.specs.Gaps.{running, dues_of, IsRow}
 use Rattle.token_list.proofs.GapLemmas.{length-running, running-gap, running-insert, running-remove, running-set_last, running-lowered, lowered, dues-is}
-use Rattle.token_list.proofs.MarkLemmas.{joined, length-joined, sum_before}
+use Rattle.token_list.proofs.MarkLemmas.{joined, sum_before}
 
 pub length-dues_of : (gs : List ℕ) (a : ℕ) → running 0 gs ≡ dues_of gs ++ a ∷ [] → length (dues_of gs) + 1 ≡ length gs
 length-dues_of gs a h = omega (arith, ap length h, length-running 0 gs, length-append (dues_of gs) (a ∷ []))
@@ -33,35 +33,35 @@ shows-entered gs a n p total h =
     let size = length-dues_of gs a total in
     let last : get_or (running 0 gs) p 0 ≡ a = ap (λ l. get_or l p 0) total ∙ get_or_at (dues_of gs) a [] 0 p (omega arith) in
     shows _ (dues_of gs) (a + n)
-      (running-set_last 0 gs p n (omega arith)
-        ∙ ap₂ (λ l x. set l p (x + n)) total last
-        ∙ set_at (dues_of gs) a [] (a + n) p (omega arith))
+    (running-set_last 0 gs p n (omega arith)
+    ∙ ap₂ (λ l x. set l p (x + n)) total last
+    ∙ set_at (dues_of gs) a [] (a + n) p (omega arith))
 
 pub shows-inserted : (gs : List ℕ) (a p d : ℕ) → running 0 gs ≡ dues_of gs ++ a ∷ [] → p < length gs → d ≤ get_or gs p 0
     → Shows (insert (set gs p (get_or gs p 0 - d)) p d) (insert (dues_of gs) p (sum_before gs p + d)) a
 shows-inserted gs a p d total h le =
     let size = length-dues_of gs a total in
     shows _ _ a
-      (running-insert 0 gs p d h le
-        ∙ ap (λ l. insert l p (sum_before gs p + d)) total
-        ∙ insert-append_left (dues_of gs) (a ∷ []) p (sum_before gs p + d) (omega arith))
+    (running-insert 0 gs p d h le
+    ∙ ap (λ l. insert l p (sum_before gs p + d)) total
+    ∙ insert-append_left (dues_of gs) (a ∷ []) p (sum_before gs p + d) (omega arith))
 
 pub shows-removed : (gs : List ℕ) (a p : ℕ) → running 0 gs ≡ dues_of gs ++ a ∷ [] → p + 1 < length gs
     → Shows (joined gs p) (remove (dues_of gs) p) a
 shows-removed gs a p total h =
     let size = length-dues_of gs a total in
     shows _ _ a
-      ((rw add-one (running-remove 0 gs p (omega arith)))
-        ∙ ap (λ l. remove l p) total
-        ∙ remove-append_left (dues_of gs) (a ∷ []) p (omega arith))
+    ((rw add-one (running-remove 0 gs p (omega arith)))
+    ∙ ap (λ l. remove l p) total
+    ∙ remove-append_left (dues_of gs) (a ∷ []) p (omega arith))
 
 pub shows-lowered : (gs : List ℕ) (a n : ℕ) → running 0 gs ≡ dues_of gs ++ a ∷ [] → Shows (lowered n gs) (lowered_by n (dues_of gs)) (a - n)
 shows-lowered gs a n total =
     shows _ _ (a - n)
-      (ap₂ (λ s m. running s (lowered m gs)) (omega arith) (omega arith)
-        ∙ running-lowered 0 n gs
-        ∙ ap (map (λ d. d - n)) total
-        ∙ map-append (λ d. d - n) (dues_of gs) (a ∷ []))
+    (ap₂ (λ s m. running s (lowered m gs)) (omega arith) (omega arith)
+    ∙ running-lowered 0 n gs
+    ∙ ap (map (λ d. d - n)) total
+    ∙ map-append (λ d. d - n) (dues_of gs) (a ∷ []))
 
 -- what stays of a row
 pub IsRow-set : (v w : Row) → IsRow v → w.slots ≡ v.slots → length w.numbers ≡ length v.numbers → IsRow w
@@ -82,18 +82,18 @@ IsRow-insert v w p k r h room slot slots size =
       few = omega arith;
       some = omega (arith, r.some);
       end =
-        let last : length w.slots - 1 ≡ length v.slots - 1 + 1 = omega (arith, r.some) in
-        ap (slot_at w.slots) last ∙ above (length v.slots - 1) (omega arith) ∙ r.end;
+          let last : length w.slots - 1 ≡ length v.slots - 1 + 1 = omega (arith, r.some) in
+          ap (slot_at w.slots) last ∙ above (length v.slots - 1) (omega arith) ∙ r.end;
       below = λ i lt. elim (cases_lt i p) as (λ _. slot_at w.slots i < 256) [
         | inl under ↦ omega (arith, ap (λ ss. slot_at ss i) slots ∙ get_or-insert_below v.slots p k 256 i under (omega arith), r.below i (omega arith))
         | inr past ↦ elim (cases_lt p i) as (λ _. slot_at w.slots i < 256) [
-            | inl over ↦
-                let one_more : i ≡ i - 1 + 1 = omega arith in
-                omega (arith, ap (slot_at w.slots) one_more ∙ above (i - 1) (omega arith), r.below (i - 1) (omega arith))
-            | inr same ↦
-                let here : i ≡ p = omega arith in
-                omega (arith, ap₂ (λ ss j. slot_at ss j) slots here ∙ get_or-insert_at v.slots p k 256 (omega arith))
-          ]
+          | inl over ↦
+              let one_more : i ≡ i - 1 + 1 = omega arith in
+              omega (arith, ap (slot_at w.slots) one_more ∙ above (i - 1) (omega arith), r.below (i - 1) (omega arith))
+          | inr same ↦
+              let here : i ≡ p = omega arith in
+              omega (arith, ap₂ (λ ss j. slot_at ss j) slots here ∙ get_or-insert_at v.slots p k 256 (omega arith))
+        ]
       ];
     }
 
@@ -106,8 +106,8 @@ IsRow-remove v w p r h slots size =
       few = omega (arith, r.few);
       some = omega arith;
       end =
-        let last : length w.slots - 1 + 1 ≡ length v.slots - 1 = omega arith in
-        above (length w.slots - 1) (omega arith) ∙ ap (slot_at v.slots) last ∙ r.end;
+          let last : length w.slots - 1 + 1 ≡ length v.slots - 1 = omega arith in
+          above (length w.slots - 1) (omega arith) ∙ ap (slot_at v.slots) last ∙ r.end;
       below = λ i lt. elim (cases_lt i p) as (λ _. slot_at w.slots i < 256) [
         | inl under ↦ omega (arith, ap (λ ss. slot_at ss i) slots ∙ get_or-remove_below v.slots p 256 i under (omega arith), r.below i (omega arith))
         | inr past ↦ omega (arith, above i (omega arith), r.below (i + 1) (omega arith))

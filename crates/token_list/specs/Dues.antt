@@ -1,5 +1,5 @@
 -- The tokens of a queue, seen by their dues.
-use Rattle.std.specs.Prelude.{ℕ, ◌+◌, ◌-◌, List, [], ◌∷◌, length, take, map, Bool, true, false, if◌then◌else◌, ◌==◌, nat_le, nat_lt, find, count_by, unwrap_or}
+use Rattle.std.specs.Prelude.{ℕ, ◌-◌, List, [], ◌∷◌, length, map, Bool, false, if◌then◌else◌, ◌==◌, nat_le, nat_lt, find, count_by, unwrap_or}
 use Rattle.kern_ids.specs.declared.replies.QueueCounts.{QueueCounts}
 
 -- the dues in order, and the pages that entered the inactive queue and have not left it

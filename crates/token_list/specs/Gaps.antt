@@ -1,5 +1,5 @@
 -- Dues kept as gaps: each due is the sum of the gaps up to it, and the number of pages ahead that of all gaps.
-use Rattle.std.specs.Prelude.{◌≡◌, ℕ, ◌+◌, ◌-◌, ◌*◌, ◌^◌, ◌<◌, ◌≤◌, List, [], ◌∷◌, ◌++◌, length, take}
+use Rattle.std.specs.Prelude.{◌≡◌, ℕ, ◌+◌, ◌-◌, ◌^◌, ◌<◌, ◌≤◌, List, [], ◌∷◌, ◌++◌, length, take}
 use Rattle.token_list.specs.declared.TokenList.TheInside.{Inside}
 use Rattle.token_list.specs.Slots.{Row, StandsAt, slot_at, number_at}
 use Rattle.token_list.specs.Dues.{Tokens}

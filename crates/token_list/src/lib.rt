@@ -166,7 +166,7 @@ impl TokenList {
         }
         let mut slot = self.ring.first();
         let mut due = self.ring.number(slot);
-        for _ in 0..k {
+        for place in 0..k {
             slot = self.ring.after(slot);
             due += self.ring.number(slot);
         }
@@ -184,7 +184,11 @@ impl TokenList {
         QueueCounts {
             tokens: self.ring.len() as u32,
             ripe: self.ripe as u32,
-            next: if self.mark == END { 0 } else { self.ring.number(self.mark) },
+            next: if self.mark == END {
+                0
+            } else {
+                self.ring.number(self.mark)
+            },
             last: self.ahead - self.ring.number(END),
         }
     }
@@ -230,5 +234,25 @@ fn mark_new(ripe: &mut usize, mark: &mut usize, place: usize, slot: usize, is_ri
         *ripe += 1;
     } else if place == *ripe {
         *mark = slot;
+    }
+}
+
+#[cfg(test)]
+mod tests {
+    use super::*;
+    use std::test::Fail;
+
+    #[test]
+    fn tokens_ripen_in_order(rt: HostRuntime) -> Result<(), Fail> {
+        let mut list = TokenList::new(rt.alloc())?;
+        list.entered(5);
+        list.add();
+        list.entered(2);
+        list.add();
+        list.insert(5);
+        list.advance(5);
+        assert_eq!(rt; list.due_at(2), Some(2));
+        assert_eq!(rt; list.counts(), QueueCounts { tokens: 3, ripe: 2, next: 2, last: 2 });
+        Ok(())
     }
 }

@@ -1,4 +1,4 @@
-use Rattle.std.proofs.Common.{◌≡◌, ℕ, ap, ◌∙◌}
+use Rattle.std.proofs.Common.{ap, ◌∙◌}
 use Rattle.token_list.specs.Dues.{put_due}
 use Rattle.token_list.proofs.CallLemmas.{put_due-ahead, view-ahead}
 use Rattle.token_list.proofs.TokenList.add.Goals as goal

@@ -1,4 +1,4 @@
-use Rattle.std.proofs.Common.{◌≡◌, ℕ, ◌-◌, length}
+use Rattle.std.proofs.Common.{◌≡◌, ◌-◌, length}
 use Rattle.token_list.proofs.PassLemmas.{Passing}
 use Rattle.token_list.proofs.TokenList.advance.Given as goal
 

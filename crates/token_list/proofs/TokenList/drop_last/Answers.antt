@@ -1,11 +1,10 @@
-use Rattle.std.proofs.Common.{◌≡◌, ℕ, ◌+◌, ◌-◌, ◌<◌, ◌≤◌, ◌∷◌, ◌++◌, [], List, length, get_or, refl, ap₂, sym, ◌∙◌, arith, rules}
+use Rattle.std.proofs.Common.{◌≡◌, ◌+◌, ◌-◌, ◌∷◌, ◌++◌, [], length, refl, ap₂, sym, ◌∙◌, arith}
 use Rattle.std.specs.List.{remove}
 use Rattle.token_list.specs.declared.TokenList.TheInside.{Inside}
-use Rattle.token_list.specs.Gaps.{dues_of}
 use Rattle.std.proofs.lemmas.List.Edits.{length-remove}
 use Rattle.std.proofs.Common.{ap}
 use Rattle.token_list.specs.Slots.{StandsAt}
-use Rattle.token_list.proofs.CallLemmas.{Is, dropped, gap-below, rest-within, length-tokens, list-last, last-due, due-within}
+use Rattle.token_list.proofs.CallLemmas.{Is, dropped, gap-below, rest-within, length-tokens, list-last, last-due}
 use Rattle.token_list.proofs.TokenList.drop_last.Goals as goal
 
 pub overflow_sub-due : goal.overflow_sub-due
@@ -38,9 +37,9 @@ invariant_of-self c =
     let at : StandsAt c.self.inside.ring.slots (c.len-place.result - 1) c.last-slot.result = c.last-slot.ensures.place (c.len-place.result - 1) (omega arith) in
     let b : Inside = record { ring = c.take_out-after.new.ring; mark = c.unmark.new.mark; ripe = c.unmark.new.ripe; ahead = c.self.inside.ahead } in
     let is : Is b (remove c.args.self.now.dues (c.len-place.result - 1)) =
-        dropped c.self.inside b c.args.self.now (c.len-place.result - 1) c.last-slot.result c.self.invariant c.self.view_is (omega arith) at
-          c.take_out-after.ensures.slots c.take_out-after.ensures.numbers c.take_out-after.result c.take_out-after.ensures.after
-          c.unmark.ensures.ripe_one c.unmark.ensures.first_unripe c.unmark.ensures.later refl in
+    dropped c.self.inside b c.args.self.now (c.len-place.result - 1) c.last-slot.result c.self.invariant c.self.view_is (omega arith) at
+    c.take_out-after.ensures.slots c.take_out-after.ensures.numbers c.take_out-after.result c.take_out-after.ensures.after
+    c.unmark.ensures.ripe_one c.unmark.ensures.first_unripe c.unmark.ensures.later refl in
     is.tokens
 
 pub returns-clause-dues : goal.returns-clause-dues
@@ -51,13 +50,13 @@ returns-clause-dues c =
     let at : StandsAt c.self.inside.ring.slots (c.len-place.result - 1) c.last-slot.result = c.last-slot.ensures.place (c.len-place.result - 1) (omega arith) in
     let b : Inside = record { ring = c.take_out-after.new.ring; mark = c.unmark.new.mark; ripe = c.unmark.new.ripe; ahead = c.self.inside.ahead } in
     let is : Is b (remove c.args.self.now.dues (c.len-place.result - 1)) =
-        dropped c.self.inside b c.args.self.now (c.len-place.result - 1) c.last-slot.result c.self.invariant c.self.view_is (omega arith) at
-          c.take_out-after.ensures.slots c.take_out-after.ensures.numbers c.take_out-after.result c.take_out-after.ensures.after
-          c.unmark.ensures.ripe_one c.unmark.ensures.first_unripe c.unmark.ensures.later refl in
+    dropped c.self.inside b c.args.self.now (c.len-place.result - 1) c.last-slot.result c.self.invariant c.self.view_is (omega arith) at
+    c.take_out-after.ensures.slots c.take_out-after.ensures.numbers c.take_out-after.result c.take_out-after.ensures.after
+    c.unmark.ensures.ripe_one c.unmark.ensures.first_unripe c.unmark.ensures.later refl in
     list-last c.args.self.now.dues (c.len-place.result - 1) (omega arith)
     ∙ ap₂ (λ ds x. ds ++ x ∷ [])
-        (sym is.dues)
-        (sym (last-due c.self.inside c.args.self.now c.number.result (c.len-place.result - 1) c.self.invariant c.self.view_is (omega arith) c.number.ensures))
+    (sym is.dues)
+    (sym (last-due c.self.inside c.args.self.now c.number.result (c.len-place.result - 1) c.self.invariant c.self.view_is (omega arith) c.number.ensures))
 
 pub returns-clause-room : goal.returns-clause-room
 returns-clause-room c =
@@ -67,7 +66,7 @@ returns-clause-room c =
     let at : StandsAt c.self.inside.ring.slots (c.len-place.result - 1) c.last-slot.result = c.last-slot.ensures.place (c.len-place.result - 1) (omega arith) in
     let b : Inside = record { ring = c.take_out-after.new.ring; mark = c.unmark.new.mark; ripe = c.unmark.new.ripe; ahead = c.self.inside.ahead } in
     let is : Is b (remove c.args.self.now.dues (c.len-place.result - 1)) =
-        dropped c.self.inside b c.args.self.now (c.len-place.result - 1) c.last-slot.result c.self.invariant c.self.view_is (omega arith) at
-          c.take_out-after.ensures.slots c.take_out-after.ensures.numbers c.take_out-after.result c.take_out-after.ensures.after
-          c.unmark.ensures.ripe_one c.unmark.ensures.first_unripe c.unmark.ensures.later refl in
+    dropped c.self.inside b c.args.self.now (c.len-place.result - 1) c.last-slot.result c.self.invariant c.self.view_is (omega arith) at
+    c.take_out-after.ensures.slots c.take_out-after.ensures.numbers c.take_out-after.result c.take_out-after.ensures.after
+    c.unmark.ensures.ripe_one c.unmark.ensures.first_unripe c.unmark.ensures.later refl in
     omega (arith, ap length is.dues, length-remove c.args.self.now.dues (c.len-place.result - 1) (omega arith), c.self.invariant.row.few)

@@ -1,4 +1,4 @@
-use Rattle.std.proofs.Common.{◌≡◌, ℕ, ◌+◌, ◌-◌, ◌<◌, ◌≤◌, List, refl, arith, rules}
+use Rattle.std.proofs.Common.{◌+◌, refl, rules}
 use Rattle.token_list.specs.declared.TokenList.TheInside.{Inside}
 use Rattle.token_list.proofs.CallLemmas.{entered, rest-within}
 use Rattle.token_list.proofs.TokenList.entered.Goals as goal

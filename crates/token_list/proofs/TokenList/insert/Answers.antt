@@ -1,10 +1,9 @@
-use Rattle.std.proofs.Common.{◌≡◌, ℕ, ◌+◌, ◌-◌, ◌<◌, ◌≤◌, Bool, true, false, eqb, List, length, get_or, set, refl, ap, ap₂, sym, ◌∙◌, subst, arith, rules}
+use Rattle.std.proofs.Common.{◌+◌, ◌-◌, ◌<◌, eqb, length, set, refl, ap, ap₂, sym, ◌∙◌, subst, arith}
 use Rattle.std.specs.List.{insert}
 use Rattle.std.proofs.lemmas.Bool.Decides.{nat_tests}
 use Rattle.token_list.specs.declared.TokenList.TheInside.{Inside}
 use Rattle.token_list.specs.Slots.{StandsAt}
 use Rattle.token_list.specs.Dues.{put_due}
-use Rattle.token_list.proofs.MarkLemmas.{sum_before}
 use Rattle.token_list.proofs.CallLemmas.{Is, IsBack, back, sum_before-some, rest-within, Finds, gap-fits, inserted}
 use Rattle.token_list.proofs.TokenList.insert.Goals as goal
 
@@ -45,16 +44,28 @@ loop-before-preserved c =
 pub overflow_sub-rest : goal.overflow_sub-rest
 overflow_sub-rest c =
     let found : Finds c.self.inside c.args.self.now c.loop-before.place c.loop-before.at c.args.due c.loop-before.before = record {
-      tokens = c.self.invariant; view = c.self.view_is; room = c.requires.room; within = c.requires.within;
-      stands = c.loop-before.invariant.stands; start = c.loop-before.invariant.before; after_less = c.loop-before-test.false; greater = c.loop-before.invariant.greater;
+      tokens = c.self.invariant;
+      view = c.self.view_is;
+      room = c.requires.room;
+      within = c.requires.within;
+      stands = c.loop-before.invariant.stands;
+      start = c.loop-before.invariant.before;
+      after_less = c.loop-before-test.false;
+      greater = c.loop-before.invariant.greater;
     } in
     omega (arith, c.number-2.ensures c.loop-before.place c.loop-before.invariant.stands, gap-fits c.self.inside c.args.self.now c.loop-before.place c.loop-before.at c.args.due c.loop-before.before found)
 
 pub invariant_of-self : goal.invariant_of-self
 invariant_of-self c =
     let found : Finds c.self.inside c.args.self.now c.loop-before.place c.loop-before.at c.args.due c.loop-before.before = record {
-      tokens = c.self.invariant; view = c.self.view_is; room = c.requires.room; within = c.requires.within;
-      stands = c.loop-before.invariant.stands; start = c.loop-before.invariant.before; after_less = c.loop-before-test.false; greater = c.loop-before.invariant.greater;
+      tokens = c.self.invariant;
+      view = c.self.view_is;
+      room = c.requires.room;
+      within = c.requires.within;
+      stands = c.loop-before.invariant.stands;
+      start = c.loop-before.invariant.before;
+      after_less = c.loop-before-test.false;
+      greater = c.loop-before.invariant.greater;
     } in
     let b : Inside = record { ring = c.insert_before-slot.new.self; mark = c.mark_new.new.mark; ripe = c.mark_new.new.ripe; ahead = c.self.inside.ahead } in
     let at = c.loop-before.invariant.stands in
@@ -62,20 +73,26 @@ invariant_of-self c =
     let gs = c.self.inside.ring.numbers in
     let slots = c.insert_before-slot.ensures.slots c.loop-before.place at' ∙ ap (λ ss. insert ss c.loop-before.place c.insert_before-slot.result) c.set_number.ensures.slots in
     let numbers =
-        c.insert_before-slot.ensures.numbers c.loop-before.place at'
-        ∙ ap (λ ns. insert ns c.loop-before.place (c.args.due - c.loop-before.before)) (c.set_number.ensures.numbers c.loop-before.place at)
-        ∙ ap (λ x. insert (set gs c.loop-before.place (x - (c.args.due - c.loop-before.before))) c.loop-before.place (c.args.due - c.loop-before.before)) (c.number-2.ensures c.loop-before.place at) in
+    c.insert_before-slot.ensures.numbers c.loop-before.place at'
+    ∙ ap (λ ns. insert ns c.loop-before.place (c.args.due - c.loop-before.before)) (c.set_number.ensures.numbers c.loop-before.place at)
+    ∙ ap (λ x. insert (set gs c.loop-before.place (x - (c.args.due - c.loop-before.before))) c.loop-before.place (c.args.due - c.loop-before.before)) (c.number-2.ensures c.loop-before.place at) in
     let is : Is b (put_due c.args.due c.args.self.now.dues) =
-        inserted c.self.inside b c.args.self.now c.loop-before.place c.loop-before.at c.args.due c.loop-before.before c.insert_before-slot.result (eqb c.args.due 0) found
-          c.insert_before-slot.ensures.slot slots numbers (λ e. grind (arith, nat_tests)) (λ e. grind (arith, nat_tests))
-          c.mark_new.ensures.ripe_one c.mark_new.ensures.first_unripe c.mark_new.ensures.later refl in
+    inserted c.self.inside b c.args.self.now c.loop-before.place c.loop-before.at c.args.due c.loop-before.before c.insert_before-slot.result (eqb c.args.due 0) found
+    c.insert_before-slot.ensures.slot slots numbers (λ e. grind (arith, nat_tests)) (λ e. grind (arith, nat_tests))
+    c.mark_new.ensures.ripe_one c.mark_new.ensures.first_unripe c.mark_new.ensures.later refl in
     is.tokens
 
 pub returns-clause-dues : goal.returns-clause-dues
 returns-clause-dues c =
     let found : Finds c.self.inside c.args.self.now c.loop-before.place c.loop-before.at c.args.due c.loop-before.before = record {
-      tokens = c.self.invariant; view = c.self.view_is; room = c.requires.room; within = c.requires.within;
-      stands = c.loop-before.invariant.stands; start = c.loop-before.invariant.before; after_less = c.loop-before-test.false; greater = c.loop-before.invariant.greater;
+      tokens = c.self.invariant;
+      view = c.self.view_is;
+      room = c.requires.room;
+      within = c.requires.within;
+      stands = c.loop-before.invariant.stands;
+      start = c.loop-before.invariant.before;
+      after_less = c.loop-before-test.false;
+      greater = c.loop-before.invariant.greater;
     } in
     let b : Inside = record { ring = c.insert_before-slot.new.self; mark = c.mark_new.new.mark; ripe = c.mark_new.new.ripe; ahead = c.self.inside.ahead } in
     let at = c.loop-before.invariant.stands in
@@ -83,11 +100,11 @@ returns-clause-dues c =
     let gs = c.self.inside.ring.numbers in
     let slots = c.insert_before-slot.ensures.slots c.loop-before.place at' ∙ ap (λ ss. insert ss c.loop-before.place c.insert_before-slot.result) c.set_number.ensures.slots in
     let numbers =
-        c.insert_before-slot.ensures.numbers c.loop-before.place at'
-        ∙ ap (λ ns. insert ns c.loop-before.place (c.args.due - c.loop-before.before)) (c.set_number.ensures.numbers c.loop-before.place at)
-        ∙ ap (λ x. insert (set gs c.loop-before.place (x - (c.args.due - c.loop-before.before))) c.loop-before.place (c.args.due - c.loop-before.before)) (c.number-2.ensures c.loop-before.place at) in
+    c.insert_before-slot.ensures.numbers c.loop-before.place at'
+    ∙ ap (λ ns. insert ns c.loop-before.place (c.args.due - c.loop-before.before)) (c.set_number.ensures.numbers c.loop-before.place at)
+    ∙ ap (λ x. insert (set gs c.loop-before.place (x - (c.args.due - c.loop-before.before))) c.loop-before.place (c.args.due - c.loop-before.before)) (c.number-2.ensures c.loop-before.place at) in
     let is : Is b (put_due c.args.due c.args.self.now.dues) =
-        inserted c.self.inside b c.args.self.now c.loop-before.place c.loop-before.at c.args.due c.loop-before.before c.insert_before-slot.result (eqb c.args.due 0) found
-          c.insert_before-slot.ensures.slot slots numbers (λ e. grind (arith, nat_tests)) (λ e. grind (arith, nat_tests))
-          c.mark_new.ensures.ripe_one c.mark_new.ensures.first_unripe c.mark_new.ensures.later refl in
+    inserted c.self.inside b c.args.self.now c.loop-before.place c.loop-before.at c.args.due c.loop-before.before c.insert_before-slot.result (eqb c.args.due 0) found
+    c.insert_before-slot.ensures.slot slots numbers (λ e. grind (arith, nat_tests)) (λ e. grind (arith, nat_tests))
+    c.mark_new.ensures.ripe_one c.mark_new.ensures.first_unripe c.mark_new.ensures.later refl in
     is.dues

@@ -1,4 +1,4 @@
-use Rattle.std.proofs.Common.{◌≡◌, ℕ, ◌+◌, ◌<◌, ◌≤◌, length, get_or}
+use Rattle.std.proofs.Common.{◌≡◌, ◌+◌, ◌<◌, ◌≤◌, length, get_or}
 use Rattle.token_list.specs.Slots.{StandsAt}
 use Rattle.token_list.specs.Gaps.{running}
 use Rattle.token_list.proofs.MarkLemmas.{sum_before}

@@ -1,4 +1,4 @@
-use Rattle.std.proofs.Common.{◌≡◌, ℕ, ◌+◌, ◌∷◌, ◌++◌, [], take, set, length, refl, ap, ◌∙◌, sym, arith}
+use Rattle.std.proofs.Common.{◌∷◌, [], take, ap, ◌∙◌, arith}
 use Rattle.std.proofs.lemmas.Bool.Decides.{nat_tests}
 use Rattle.std.proofs.lemmas.List.{take_more_set, take_all, length-set}
 use Rattle.token_list.specs.Slots.{times}
@@ -9,8 +9,8 @@ pub loop-slot-preserved : goal.loop-slot-preserved
 loop-slot-preserved c = record {
   size = (simp length-set) ∙ c.loop-slot.invariant.size;
   once = λ v.
-    let more = ap (times v) (take_more_set c.loop-slot.slots c.loop-slot.slot c.loop-slot.slot (omega (arith, c.loop-slot.invariant.size, c.loop-slot-test.true))) in
-    grind (arith, nat_tests, more, times-append v (take c.loop-slot.slot c.loop-slot.slots) (c.loop-slot.slot ∷ []), c.loop-slot.invariant.once v);
+      let more = ap (times v) (take_more_set c.loop-slot.slots c.loop-slot.slot c.loop-slot.slot (omega (arith, c.loop-slot.invariant.size, c.loop-slot-test.true))) in
+      grind (arith, nat_tests, more, times-append v (take c.loop-slot.slot c.loop-slot.slots) (c.loop-slot.slot ∷ []), c.loop-slot.invariant.once v);
 }
 
 pub returns-clause-once : goal.returns-clause-once

@@ -1,5 +1,4 @@
-use Rattle.std.proofs.Common.{◌≡◌, ℕ, ◌+◌, ◌<◌, ◌≤◌, suc, length, arith, add-one}
-use Rattle.token_list.specs.Slots.{StandsAt}
+use Rattle.std.proofs.Common.{arith, add-one}
 use Rattle.token_list.proofs.RingLemmas.{after_slot-stands, after_slot-below}
 use Rattle.token_list.proofs.slot_ring.SlotRing.after.Goals as goal
 

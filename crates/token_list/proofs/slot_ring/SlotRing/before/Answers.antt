@@ -1,5 +1,4 @@
-use Rattle.std.proofs.Common.{◌≡◌, ℕ, ◌+◌, ◌<◌, ◌≤◌, suc, length, arith, add-one}
-use Rattle.token_list.specs.Slots.{StandsAt}
+use Rattle.std.proofs.Common.{arith, add-one}
 use Rattle.token_list.proofs.RingLemmas.{before_slot-stands, before_slot-below}
 use Rattle.token_list.proofs.slot_ring.SlotRing.before.Goals as goal
 

@@ -1,5 +1,4 @@
-use Rattle.std.proofs.Common.{◌≡◌, ℕ, ◌+◌, ◌<◌, ◌≤◌, suc, length, arith, add-one}
-use Rattle.token_list.specs.Slots.{StandsAt}
+use Rattle.std.proofs.Common.{arith}
 use Rattle.token_list.proofs.RingLemmas.{first_slot-stands, standing-below}
 use Rattle.token_list.proofs.slot_ring.SlotRing.first.Goals as goal
 

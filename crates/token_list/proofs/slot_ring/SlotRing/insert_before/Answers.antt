@@ -1,8 +1,6 @@
-use Rattle.std.proofs.Common.{◌≡◌, ℕ, ◌+◌, ◌-◌, ◌<◌, ◌*◌, ◌∷◌, ◌++◌, [], List, length, set, get_or, refl, arith, rules}
+use Rattle.std.proofs.Common.{◌+◌, ◌<◌, set, get_or, refl, arith, rules}
 use Rattle.std.specs.Box.{with_value}
 use Rattle.token_list.specs.declared.slot_ring.SlotRing.TheInside.{Inside}
-use Rattle.token_list.specs.Slots.{Stands, StandsAt, Row}
-use Rattle.token_list.specs.Ring.{order, row}
 use Rattle.token_list.proofs.RingLemmas.{standing-below, before_slot-below, free_slot-below, room-below, Inserts, inserted}
 use Rattle.token_list.proofs.slot_ring.SlotRing.insert_before.Goals as goal
 
@@ -54,8 +52,16 @@ invariant_of-self c =
       used = c.self.inside.used + 1;
     } in
     let writes : Inserts c.self.inside b c.args.self.now c.args.at (get_or c.deref.result.now c.self.inside.used 0) (get_or c.deref-2.result.now c.args.at 0) c.args.number = record {
-      ring = c.self.invariant; view = c.self.view_is; room = c.requires.room;
-      slot = cc; before_slot = cc; next = cc; previous = cc; numbers = cc; free = refl; used = refl;
+      ring = c.self.invariant;
+      view = c.self.view_is;
+      room = c.requires.room;
+      slot = cc;
+      before_slot = cc;
+      next = cc;
+      previous = cc;
+      numbers = cc;
+      free = refl;
+      used = refl;
     } in
     (inserted writes c.requires.stands.0 c.requires.stands.1).ring
 
@@ -74,8 +80,16 @@ returns-clause-slots c =
       used = c.self.inside.used + 1;
     } in
     let writes : Inserts c.self.inside b c.args.self.now c.args.at (get_or c.deref.result.now c.self.inside.used 0) (get_or c.deref-2.result.now c.args.at 0) c.args.number = record {
-      ring = c.self.invariant; view = c.self.view_is; room = c.requires.room;
-      slot = cc; before_slot = cc; next = cc; previous = cc; numbers = cc; free = refl; used = refl;
+      ring = c.self.invariant;
+      view = c.self.view_is;
+      room = c.requires.room;
+      slot = cc;
+      before_slot = cc;
+      next = cc;
+      previous = cc;
+      numbers = cc;
+      free = refl;
+      used = refl;
     } in
     λ p at. (inserted writes p at).slots
 
@@ -89,7 +103,15 @@ returns-clause-numbers c =
       used = c.self.inside.used + 1;
     } in
     let writes : Inserts c.self.inside b c.args.self.now c.args.at (get_or c.deref.result.now c.self.inside.used 0) (get_or c.deref-2.result.now c.args.at 0) c.args.number = record {
-      ring = c.self.invariant; view = c.self.view_is; room = c.requires.room;
-      slot = cc; before_slot = cc; next = cc; previous = cc; numbers = cc; free = refl; used = refl;
+      ring = c.self.invariant;
+      view = c.self.view_is;
+      room = c.requires.room;
+      slot = cc;
+      before_slot = cc;
+      next = cc;
+      previous = cc;
+      numbers = cc;
+      free = refl;
+      used = refl;
     } in
     λ p at. (inserted writes p at).numbers

@@ -1,4 +1,4 @@
-use Rattle.std.proofs.Common.{◌≡◌, ℕ, ◌+◌, ◌<◌, ◌≤◌, suc, length, arith, add-one}
+use Rattle.std.proofs.Common.{suc, length, arith}
 use Rattle.token_list.specs.Slots.{StandsAt}
 use Rattle.token_list.proofs.RingLemmas.{end-stands, before_slot-stands, before_slot-below}
 use Rattle.std.proofs.Common.{◌-◌}

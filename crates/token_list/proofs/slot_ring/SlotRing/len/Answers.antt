@@ -1,5 +1,4 @@
-use Rattle.std.proofs.Common.{◌≡◌, ℕ, ◌+◌, ◌<◌, ◌∷◌, ◌++◌, [], zero, suc, List, length, set, get_or, refl, ap, sym, ◌∙◌, arith, add-one}
-use Rattle.token_list.specs.Slots.{StandsAt}
+use Rattle.std.proofs.Common.{◌+◌, ◌∷◌, [], get_or, ap, sym, ◌∙◌}
 use Rattle.token_list.specs.Ring.{order}
 use Rattle.token_list.proofs.LinkLemmas.{length-walk}
 use Rattle.std.proofs.lemmas.List.{length-append, length-map}

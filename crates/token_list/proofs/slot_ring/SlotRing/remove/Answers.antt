@@ -1,8 +1,6 @@
-use Rattle.std.proofs.Common.{◌≡◌, ℕ, ◌+◌, ◌-◌, ◌<◌, ◌*◌, ◌∷◌, ◌++◌, [], List, length, set, get_or, refl, arith, rules}
+use Rattle.std.proofs.Common.{◌-◌, set, get_or, refl}
 use Rattle.std.specs.Box.{with_value}
 use Rattle.token_list.specs.declared.slot_ring.SlotRing.TheInside.{Inside}
-use Rattle.token_list.specs.Slots.{Stands, StandsAt, Row}
-use Rattle.token_list.specs.Ring.{order, row}
 use Rattle.token_list.proofs.RingLemmas.{before_slot-below, after_slot-below, Removes, removed}
 use Rattle.token_list.proofs.slot_ring.SlotRing.remove.Goals as goal
 
@@ -22,8 +20,16 @@ invariant_of-self c =
       used = c.self.inside.used - 1;
     } in
     let writes : Removes c.self.inside b c.args.self.now c.args.slot (get_or c.deref.result.now c.args.slot 0) (get_or c.deref-2.result.now c.args.slot 0) = record {
-      ring = c.self.invariant; view = c.self.view_is; below = c.requires.bound;
-      before_slot = cc; after_slot = cc; next = cc; previous = cc; numbers = refl; free = cc; used = refl;
+      ring = c.self.invariant;
+      view = c.self.view_is;
+      below = c.requires.bound;
+      before_slot = cc;
+      after_slot = cc;
+      next = cc;
+      previous = cc;
+      numbers = refl;
+      free = cc;
+      used = refl;
     } in
     (removed writes c.requires.stands.0 c.requires.stands.1).ring
 
@@ -37,8 +43,16 @@ returns-clause-slots c =
       used = c.self.inside.used - 1;
     } in
     let writes : Removes c.self.inside b c.args.self.now c.args.slot (get_or c.deref.result.now c.args.slot 0) (get_or c.deref-2.result.now c.args.slot 0) = record {
-      ring = c.self.invariant; view = c.self.view_is; below = c.requires.bound;
-      before_slot = cc; after_slot = cc; next = cc; previous = cc; numbers = refl; free = cc; used = refl;
+      ring = c.self.invariant;
+      view = c.self.view_is;
+      below = c.requires.bound;
+      before_slot = cc;
+      after_slot = cc;
+      next = cc;
+      previous = cc;
+      numbers = refl;
+      free = cc;
+      used = refl;
     } in
     λ p at. (removed writes p at).slots
 
@@ -52,7 +66,15 @@ returns-clause-numbers c =
       used = c.self.inside.used - 1;
     } in
     let writes : Removes c.self.inside b c.args.self.now c.args.slot (get_or c.deref.result.now c.args.slot 0) (get_or c.deref-2.result.now c.args.slot 0) = record {
-      ring = c.self.invariant; view = c.self.view_is; below = c.requires.bound;
-      before_slot = cc; after_slot = cc; next = cc; previous = cc; numbers = refl; free = cc; used = refl;
+      ring = c.self.invariant;
+      view = c.self.view_is;
+      below = c.requires.bound;
+      before_slot = cc;
+      after_slot = cc;
+      next = cc;
+      previous = cc;
+      numbers = refl;
+      free = cc;
+      used = refl;
     } in
     λ p at. (removed writes p at).numbers

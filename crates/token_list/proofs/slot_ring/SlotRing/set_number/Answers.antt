@@ -1,6 +1,5 @@
-use Rattle.std.proofs.Common.{◌≡◌, ℕ, ◌<◌, ◌*◌, ◌∷◌, ◌++◌, [], List, set, ap, ◌∙◌, arith, rules}
-use Rattle.token_list.specs.Slots.{Stands, reads}
-use Rattle.token_list.specs.Ring.{order, row}
+use Rattle.std.proofs.Common.{◌<◌, ◌∷◌, ◌++◌, [], arith, rules}
+use Rattle.token_list.specs.Ring.{order}
 use Rattle.token_list.proofs.ReadLemmas.{reads-set}
 use Rattle.token_list.proofs.LinkLemmas.{times-row}
 use Rattle.token_list.proofs.RingLemmas.{standing-below}
