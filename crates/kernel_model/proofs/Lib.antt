@@ -1,0 +1,5 @@
+pub mod Laws
+pub mod Literal
+pub mod Rows
+pub mod Ranges
+pub mod Grows

@@ -1,0 +1,4 @@
+pub mod SharerLemmas
+pub mod OrderLemmas
+pub mod LineLemmas
+pub mod FitLemmas

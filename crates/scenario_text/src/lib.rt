@@ -1,0 +1,10 @@
+//! The text of a scenario, read and written. A scenario has exactly one text, and reading takes that text
+//! and no other: where it does not, it tells the first line that is wrong and why.
+#![tactic(auto)]
+
+mod declarations;
+mod fault;
+mod place;
+mod scan;
+
+pub use scan::read_scenario;
