@@ -252,7 +252,15 @@ mod tests {
         list.insert(5);
         list.advance(5);
         assert_eq!(rt; list.due_at(2), Some(2));
-        assert_eq!(rt; list.counts(), QueueCounts { tokens: 3, ripe: 2, next: 2, last: 2 });
+        assert_eq!(rt;
+            list.counts(),
+            QueueCounts {
+                tokens: 3,
+                ripe: 2,
+                next: 2,
+                last: 2
+            }
+        );
         Ok(())
     }
 }
