@@ -1,9 +1,9 @@
 -- The first object that is found in a list of queues and groups.
-use Rattle.std.proofs.Common.{◌≡◌, ℕ, ◌+◌, ◌-◌, ◌<◌, suc, List, [], ◌∷◌, ◌++◌, Option, Some, None, refl, ap, sym, ◌∙◌, arith}
+use Rattle.std.proofs.Common.{◌≡◌, ℕ, ◌+◌, ◌-◌, ◌<◌, suc, List, ◌∷◌, Option, Some, None, refl, ap, arith}
 use Rattle.std.specs.List.{range_with_len}
 use Rattle.kern_ids.specs.declared.calls.Queue.{Queue}
 use Rattle.kernel_model.specs.Lists.{first_some}
-use Rattle.purge_pick.specs.Picks.{head_of, first_of, both_places}
+use Rattle.purge_pick.specs.Picks.{first_of, both_places}
 
 pub range_with_len-more : (i n : ℕ) → i < n → range_with_len i (n - i) ≡ i ∷ range_with_len (i + 1) (n - (i + 1))
 range_with_len-more i n h =

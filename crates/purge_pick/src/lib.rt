@@ -10,6 +10,7 @@ ghost use Rattle.volatile_groups.specs.Grouped.{members};
 ghost use Rattle.purge_pick.specs.Picks.{ripe_queue, picked, forced_of, first_of, both_places, HasTokens, HeadsGroup};
 
 pub mod choice;
+pub mod law;
 
 use choice::Pick;
 use kern_ids::calls::Queue;
@@ -103,3 +104,6 @@ fn first_of_queue(g: &Groups, q: Queue) -> Option<ObjId>
     }
     None
 }
+
+#[cfg(test)]
+mod tests;

@@ -1,4 +1,4 @@
-use Rattle.std.proofs.Common.{◌≡◌, ℕ, ◌-◌}
+use Rattle.std.proofs.Common.{◌≡◌, ◌-◌}
 use Rattle.std.specs.List.{range_with_len}
 use Rattle.purge_pick.specs.Picks.{first_of, both_places}
 use Rattle.purge_pick.proofs.first_of_both.Given as goal

@@ -1,5 +1,4 @@
-use Rattle.std.proofs.Common.{◌≡◌, ℕ, ◌+◌, ◌-◌, None, Option, refl, ap, sym, ◌∙◌, map}
-use Rattle.std.specs.List.{range_with_len}
+use Rattle.std.proofs.Common.{◌≡◌, None, ap, sym, ◌∙◌, map}
 use Rattle.purge_pick.specs.Picks.{head_of, first_of}
 use Rattle.purge_pick.proofs.FindLemmas.{range_with_len-more, first_some-no}
 use Rattle.purge_pick.proofs.first_of_queue.Goals as goal

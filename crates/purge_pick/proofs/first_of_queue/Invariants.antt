@@ -1,4 +1,4 @@
-use Rattle.std.proofs.Common.{◌≡◌, ℕ, ◌-◌, map}
+use Rattle.std.proofs.Common.{◌≡◌, ◌-◌, map}
 use Rattle.std.specs.List.{range_with_len}
 use Rattle.kernel_model.specs.Choice.{groups_of}
 use Rattle.purge_pick.specs.Picks.{first_of}
