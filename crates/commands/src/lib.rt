@@ -1,0 +1,11 @@
+//! The commands of the program: from its words, a source and a sink to the exit status.
+#![tactic(auto)]
+
+mod answer;
+mod command;
+mod decide;
+mod messages;
+mod stand_in;
+mod top;
+
+pub use top::serial_top;
