@@ -5,7 +5,8 @@ mod answer;
 mod command;
 mod decide;
 mod messages;
-mod stand_in;
+#[cfg(test)]
+mod tests;
 mod top;
 
 pub use top::serial_top;
