@@ -1,12 +1,9 @@
 -- What is due, from how an input was read.
-use Rattle.std.proofs.Common.{◌≡◌, ◌≢◌, ◌∙◌, ◌≤◌, ◌<◌, ◌+◌, ◌⊎◌, inl, inr, ℕ, List, [], ◌∷◌, length, take, drop, Option, Some, None, Result, Ok, Err, Bool, true, false, refl, sym, ap, subst, arith, ltb}
-use Rattle.std.specs.Prelude.{OnErr, Contains, replicate, IsSome, if◌then◌else◌}
+use Rattle.std.proofs.Common.{◌≡◌, ◌∙◌, ◌≤◌, ◌<◌, ◌+◌, inl, inr, ℕ, List, [], ◌∷◌, length, take, Option, Some, None, Result, refl, sym, ap, subst, arith}
+use Rattle.std.specs.Prelude.{OnErr, Contains, replicate}
 use Rattle.std.proofs.lemmas.Bool.{le-ltb, lt-ltb}
 use Rattle.std.proofs.lemmas.List.{length-take-le, length-replicate}
-use Rattle.std.specs.Io.KnownBytes.{Appends}
-use Rattle.edge.specs.Ends.{Rose, ReadWhole, IsOver, AppendsFront}
-use Rattle.kern_ids.specs.declared.faults.Why.{Why}
-use Rattle.kernel_model.specs.Scenario.{Plan}
+use Rattle.edge.specs.Ends.{ReadWhole, IsOver, AppendsFront}
 use Rattle.line_text.specs.Cut.{Word}
 use Rattle.scenario_text.specs.Grammar.{scenario_of}
 use Rattle.commands.specs.declared.answer.Answer.{Answer}
@@ -14,9 +11,9 @@ use Rattle.commands.specs.declared.answer.Answer.TheVariants as answer
 use Rattle.commands.specs.declared.command.Command.{Command}
 use Rattle.commands.specs.Answers.{due_of}
 use Rattle.commands.specs.Commands.{command_of, limit_of}
-use Rattle.commands.specs.Messages.{bad_words, read_fault, too_long}
-use Rattle.commands.specs.Outcome.{Due, output, answered, outcome_of, outcome_by, outcome}
-use Rattle.commands.specs.Calls.{IsInput, IsTakenBy, IsTaken, IsOutcome, IsReadFault, IsDue, WritesOutcome, IsAccepted}
+use Rattle.commands.specs.Messages.{too_long}
+use Rattle.commands.specs.Outcome.{Due, answered, outcome_of, outcome_by}
+use Rattle.commands.specs.Calls.{IsInput, IsTakenBy, IsDue}
 
 -- a front of a text, and of one that equals it
 pub front_of : {E : Type 0} (r : Result (Unit {0}) E) (held holds : Option (List ℕ)) (written due : List ℕ) → written ≡ due → OnErr r (AppendsFront held holds written) → OnErr r (AppendsFront held holds due)

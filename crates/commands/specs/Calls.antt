@@ -1,5 +1,5 @@
 -- What a call of the program took from its source, and what it wrote to its sink.
-use Rattle.std.specs.Prelude.{◌≡◌, ◌≤◌, ◌<◌, ◌+◌, ◌⊎◌, ⊤, ℕ, List, [], length, take, drop, Option, Some, None, Result, Ok, Err, IsSome}
+use Rattle.std.specs.Prelude.{◌≡◌, ◌≤◌, ◌<◌, ◌+◌, ◌⊎◌, ⊤, ℕ, List, [], length, take, drop, Option, Some, None, Ok, IsSome}
 use Rattle.std.specs.Io.KnownBytes.{Appends, Keeps}
 use Rattle.edge.specs.Ends.{Rose, AppendsFront}
 use Rattle.kernel_model.specs.Scenario.{Plan}
