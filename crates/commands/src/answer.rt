@@ -1,0 +1,61 @@
+//! What the program answers: an exit status and a text.
+
+ghost use Rattle.std.specs.Prelude.{◌≡◌, ◌≤◌, OnOk, OnErr};
+ghost use Rattle.std.specs.Io.KnownBytes.{Appends};
+ghost use Rattle.edge.specs.Ends.{Rose, AppendsFront};
+ghost use Rattle.commands.specs.Answers.{due_of};
+
+use crate::messages::{bad_line, bad_words, read_fault, too_long};
+use edge::ends::{Failed, Sink};
+use edge::writing::{WriteBuffer, write_pieces, write_whole};
+use kern_ids::faults::Why;
+use kernel_model::scenario::Scenario;
+use scenario_text::ScenarioPieces;
+
+/// What the program answers.
+#[derive(Drop)]
+pub enum Answer {
+    /// A scenario.
+    Rewritten(Scenario),
+    /// The words are those of no command.
+    BadWords,
+    /// A line of the input is wrong.
+    BadLine(u32, Why),
+    /// The input could not be read to its end.
+    ReadFault,
+    /// The input is longer than this.
+    TooLong(usize),
+}
+
+impl Answer {
+    /// The exit status.
+    pub fn status(&self) -> u8
+        ensures { result ≡ (due_of self.now).0 }
+    {
+        match self {
+            Answer::Rewritten(_) => 0,
+            Answer::BadWords => 2,
+            Answer::BadLine(..) => 3,
+            Answer::ReadFault => 4,
+            Answer::TooLong(_) => 7,
+        }
+    }
+
+    /// Writes the text. Takes no memory.
+    pub fn write<K: Sink>(&self, sink: &mut K, buffer: WriteBuffer) -> Result<(), Failed>
+        ensures ok { OnOk result (Appends (K.held sink.old) (K.held sink.new) (due_of self.now).1) }
+        ensures front { OnErr result (AppendsFront (K.held sink.old) (K.held sink.new) (due_of self.now).1) }
+        ensures grows { K.fault_count sink.old ≤ K.fault_count sink.new }
+        ensures cause { OnErr result (Rose (K.fault_count sink.old) (K.fault_count sink.new)) }
+    {
+        match self {
+            Answer::Rewritten(scenario) => {
+                write_pieces(sink, ScenarioPieces::new(scenario), buffer)
+            }
+            Answer::BadWords => write_whole(sink, bad_words().as_slice()),
+            Answer::BadLine(number, why) => write_whole(sink, bad_line(*number, *why).as_slice()),
+            Answer::ReadFault => write_whole(sink, read_fault().as_slice()),
+            Answer::TooLong(limit) => write_whole(sink, too_long(*limit).as_slice()),
+        }
+    }
+}

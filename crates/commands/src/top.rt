@@ -1,0 +1,63 @@
+//! The call that the program makes.
+
+ghost use Rattle.std.specs.Prelude.{◌≡◌, ◌≢◌, ◌≤◌, ◌⊎◌, ◌∷◌, [], None, Contains};
+ghost use Rattle.std.specs.Io.KnownBytes.{Appends, Keeps};
+ghost use Rattle.edge.specs.Ends.{Rose};
+ghost use Rattle.commands.specs.Commands.{command_of};
+ghost use Rattle.commands.specs.Messages.{read_fault};
+ghost use Rattle.commands.specs.Calls.{WritesOutcome, WritesFront, IsReadFault, IsAccepted};
+
+use crate::decide::decide;
+use edge::ends::{Failed, Sink, Source};
+use edge::words::Words;
+use edge::writing::WriteBuffer;
+use kern_ids::entries::NoMemory;
+use std::alloc::Global;
+
+/// Performs the command that the words ask for: reads the source to its end, and writes what is due. The
+/// result is the exit status: 0 where the command was performed, 2 for bad words, 3 for bad input, 4 for a
+/// failed read, 5 for a failed write, 7 for an input that is too long, and 9 for want of memory. All memory
+/// is taken before the first byte is written.
+pub fn serial_top<S: Source, K: Sink>(
+    alloc: Global,
+    words: &Words,
+    source: &mut S,
+    sink: &mut K,
+) -> u8
+    // But at a failed read, a failed write or want of memory, the status is that of the outcome, and its whole text was written.
+    ensures outcome { result ≢ 4 → result ≢ 5 → result ≢ 9 → WritesOutcome words.now (S.left source.old) (S.left source.new) (K.held sink.old) (K.held sink.new) result }
+
+    // A failed read: the source was to be read, its count rose, and the line that says so was written.
+    ensures read { result ≡ 4 → IsReadFault words.now (S.fault_count source.old) (S.fault_count source.new) × Appends (K.held sink.old) (K.held sink.new) read_fault }
+
+    // A failed write: the sink's count rose, and a front of the text that was due was written.
+    ensures write { result ≡ 5 → Rose (K.fault_count sink.old) (K.fault_count sink.new) × WritesFront words.now (S.left source.old) (S.left source.new) (S.fault_count source.old) (S.fault_count source.new) (K.held sink.old) (K.held sink.new) }
+
+    // Want of memory: nothing was written.
+    ensures memory { result ≡ 9 → Keeps (K.held sink.old) (K.held sink.new) }
+
+    // There is no other status.
+    ensures statuses { Contains (0 ∷ 2 ∷ 3 ∷ 4 ∷ 5 ∷ 7 ∷ 9 ∷ []) result }
+
+    // With bad words the source is as before.
+    ensures unread { command_of words.now ≡ None → Keeps (S.left source.old) (S.left source.new) × (S.fault_count source.new ≡ S.fault_count source.old) }
+
+    // A good input is answered by 0, but for want of memory, where no read and no write fails.
+    ensures complete { IsAccepted words.now (S.left source.old) → ¬ Rose (S.fault_count source.old) (S.fault_count source.new) → ¬ Rose (K.fault_count sink.old) (K.fault_count sink.new) → (result ≡ 0) ⊎ (result ≡ 9) }
+
+    // No count of faults falls.
+    ensures grows { (S.fault_count source.old ≤ S.fault_count source.new) × (K.fault_count sink.old ≤ K.fault_count sink.new) }
+{
+    let answer = match decide(alloc, words, source) {
+        Ok(answer) => answer,
+        Err(NoMemory) => return 9,
+    };
+    let buffer = match WriteBuffer::new(alloc) {
+        Ok(buffer) => buffer,
+        Err(NoMemory) => return 9,
+    };
+    match answer.write(sink, buffer) {
+        Ok(()) => answer.status(),
+        Err(Failed) => 5,
+    }
+}
