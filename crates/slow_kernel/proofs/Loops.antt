@@ -48,7 +48,7 @@ placed_none boot p = placed-none boot p
 pub past_loop : (h : List Entry) (i : ℕ) (e : Entry) → i < length h → e ≡ get_or h i e → reverse (take (i + 1) h) ≡ e ∷ reverse (take i h)
 past_loop h i e l r = past-take h i e l r
 
-past_length : (h : List Entry) (i : ℕ) → i < length h → length (reverse (take i h)) ≡ i
+pub past_length : (h : List Entry) (i : ℕ) → i < length h → length (reverse (take i h)) ≡ i
 past_length h i l = length-reverse (take i h) ∙ length-take-le i h (omega arith)
 
 pub placed_loop : (boot : System) (h : List Entry) (i : ℕ) (e : Entry) (p : PageId) → i < length h → e ≡ get_or h i e → placed boot (reverse (take (i + 1) h)) p ≡ next_placed (state (reverse (take i h)) p.obj) (unmaps boot (reverse (take i h)) e p.obj) i p (placed boot (reverse (take i h)) p) e

@@ -1,23 +1,32 @@
 //! What the kernel answers, computed from the entries alone.
 
-ghost use Rattle.std.specs.Prelude.{◌≡◌, ◌<◌, ◌≤◌, ◌+◌, ◌++◌, ◌∷◌, [], reverse, length, IsTrue, IfOk, OnErr, false, map};
-ghost use Rattle.std.specs.Option.{unwrap_or};
+ghost use Rattle.std.specs.Prelude.{◌≡◌, ◌<◌, ◌≤◌, ◌+◌, reverse, length, IfOk, false, map};
+ghost use Rattle.std.specs.Option.{option_map_or, unwrap_or};
+ghost use Rattle.std.specs.List.{range_with_len};
 ghost use Rattle.kernel_model.specs.Answers as spec;
-ghost use Rattle.kernel_model.specs.Pages as places;
-ghost use Rattle.kernel_model.specs.Histories as histories;
+ghost use Rattle.kernel_model.specs.Bands as bands;
+ghost use Rattle.kernel_model.specs.Choice as choice;
+ghost use Rattle.kernel_model.specs.Contents as contents;
+ghost use Rattle.kernel_model.specs.Counted as counted;
 ghost use Rattle.kernel_model.specs.Events as events;
 ghost use Rattle.kernel_model.specs.State as states;
 ghost use Rattle.slow_kernel.specs.Slow as slow;
-ghost use Rattle.kernel_model.specs.Contents as contents;
-ghost use Rattle.std.specs.List.{range_with_len};
 
-use crate::slow::{bytes, free, live, mapped, maps, needed, pages_in, shares, state};
-use kern_ids::calls::{Call, State, decode_word};
-use kern_ids::entries::{Entry, EntryList, NoMemory};
-use kern_ids::ids::{ObjId, PageId, TaskId, ThreadId};
+use crate::contents::bytes;
+use crate::groups::{forced, object_rows};
+use crate::mapping::{live, mapped, maps, shares};
+use crate::pages::{all_rows, free, needed, pages_in, small};
+use crate::scan::{frames, pick, scan, tokens};
+use crate::states::{is_empty, state};
+use crate::tasks::{task_pass, tick};
+use crate::victims::{counts, victim};
+use kern_ids::calls::{Call, decode_word};
+use kern_ids::entries::{Entry, NoMemory};
+use kern_ids::ids::{ObjId, TaskId, ThreadId};
 use kern_ids::replies::{Refusal, Reply};
 use kernel_model::boot::Boot;
 use kernel_model::events::task_of;
+use std::alloc::Global;
 
 /// The object that a call names.
 pub fn object_of(call: &Call) -> Option<ObjId>
@@ -115,13 +124,6 @@ fn out_of_range(boot: &Boot, call: &Call) -> bool
     }
 }
 
-/// The object is EMPTY.
-fn is_empty(entries: &[Entry], o: ObjId) -> bool
-    ensures { result ≡ states.is_empty (states.state (reverse entries.now) o) }
-{
-    matches!(state(entries, o), State::Empty)
-}
-
 fn emptied(entries: &[Entry], call: &Call) -> bool
     ensures { result ≡ spec.emptied (reverse entries.now) call.now }
 {
@@ -131,47 +133,55 @@ fn emptied(entries: &[Entry], call: &Call) -> bool
     }
 }
 
-#[tactic(auto, unfolding(kernel_model::specs::Answers::short_of))]
-fn short_of(
-    boot: &Boot,
-    entries: &[Entry],
-    pages: &[PageId],
-    o: ObjId,
-    off: u32,
-    len: u32,
-) -> Option<Refusal>
-    requires { pages.now ≡ places.pages_of boot.now }
-    ensures { result ≡ spec.short_of boot.now (reverse entries.now) (spec.needed boot.now (reverse entries.now) o off len) }
+/// More pages are needed than frames are free.
+fn short_by(needed: usize, free: u32) -> Result<Option<Refusal>, NoMemory>
+    ensures { IfOk result (λ why. why ≡ slow.short_by needed free) }
 {
-    let n = needed(boot, entries, o, off, len);
-    let free = free(boot, entries, pages);
-    if (free as usize) < n {
-        Some(Refusal::Shortage {
-            needed: n as u32,
-            free,
-        })
+    if (free as usize) < needed {
+        let needed = small(needed)?;
+        Ok(Some(Refusal::Shortage { needed, free }))
     } else {
-        None
+        Ok(None)
     }
 }
 
-fn shortage(boot: &Boot, entries: &[Entry], pages: &[PageId], call: &Call) -> Option<Refusal>
-    requires { pages.now ≡ places.pages_of boot.now }
-    ensures { result ≡ spec.shortage boot.now (reverse entries.now) call.now }
+#[tactic(auto, unfolding(kernel_model::specs::Answers::short_of))]
+fn short_of(
+    alloc: Global,
+    boot: &Boot,
+    entries: &[Entry],
+    o: ObjId,
+    off: u32,
+    len: u32,
+) -> Result<Option<Refusal>, NoMemory>
+    ensures { IfOk result (λ why. why ≡ spec.short_of boot.now (reverse entries.now) (spec.needed boot.now (reverse entries.now) o off len)) }
+{
+    let needed = needed(alloc, boot, entries, o, off, len)?;
+    let rows = all_rows(alloc, boot, entries)?;
+    Ok(short_by(needed, free(boot, entries, &rows))?)
+}
+
+fn shortage(
+    alloc: Global,
+    boot: &Boot,
+    entries: &[Entry],
+    call: &Call,
+) -> Result<Option<Refusal>, NoMemory>
+    ensures { IfOk result (λ why. why ≡ spec.shortage boot.now (reverse entries.now) call.now) }
 {
     match call {
         Call::Write { obj, off, bytes } => {
             let len = bytes.as_slice().len() as u32;
-            short_of(boot, entries, pages, *obj, *off, len)
+            Ok(short_of(alloc, boot, entries, *obj, *off, len)?)
         }
         Call::Read { obj, off, len } => {
             if is_empty(entries, *obj) {
-                None
+                Ok(None)
             } else {
-                short_of(boot, entries, pages, *obj, *off, *len)
+                Ok(short_of(alloc, boot, entries, *obj, *off, *len)?)
             }
         }
-        _ => None,
+        _ => Ok(None),
     }
 }
 
@@ -188,57 +198,37 @@ fn caller(boot: &Boot, who: ThreadId) -> TaskId
 /// Why a call is refused, if it is.
 #[tactic(auto, unfolding(kernel_model::specs::Answers::refusal))]
 pub fn refusal(
+    alloc: Global,
     boot: &Boot,
     entries: &[Entry],
-    pages: &[PageId],
     who: ThreadId,
     call: &Call,
-) -> Option<Refusal>
-    requires { pages.now ≡ places.pages_of boot.now }
-    ensures { result ≡ spec.refusal boot.now (reverse entries.now) who call.now }
+) -> Result<Option<Refusal>, NoMemory>
+    ensures { IfOk result (λ why. why ≡ spec.refusal boot.now (reverse entries.now) who call.now) }
 {
     let t = caller(boot, who);
     if is_dead(boot, entries, task_of(boot, who)) || is_dead(boot, entries, named_task(call)) {
-        return Some(Refusal::Dead);
+        return Ok(Some(Refusal::Dead));
     }
     if is_stranger(boot, t, call) {
-        return Some(Refusal::NotMine);
+        return Ok(Some(Refusal::NotMine));
     }
     if no_object(boot, entries, t, call) {
-        return Some(Refusal::NoObject);
+        return Ok(Some(Refusal::NoObject));
     }
     if already(boot, entries, t, call) {
-        return Some(Refusal::Already);
+        return Ok(Some(Refusal::Already));
     }
     if invalid(call) {
-        return Some(Refusal::Invalid);
+        return Ok(Some(Refusal::Invalid));
     }
     if out_of_range(boot, call) {
-        return Some(Refusal::Range);
+        return Ok(Some(Refusal::Range));
     }
     if emptied(entries, call) {
-        return Some(Refusal::Emptied);
+        return Ok(Some(Refusal::Emptied));
     }
-    shortage(boot, entries, pages, call)
-}
-
-/// What an accepted call gets.
-fn accepted_answer(boot: &Boot, entries: &[Entry], t: TaskId, call: &Call) -> Reply
-    requires built { IsTrue (slow.is_built call.now) }
-    requires range { spec.out_of_range boot.now call.now ≡ false }
-    ensures { result ≡ spec.accepted_answer boot.now (reverse entries.now) t call.now }
-{
-    match call {
-        Call::Map { .. } => Reply::Mapped,
-        Call::Attach { .. } => Reply::Attached,
-        Call::Unmap { .. } => Reply::Unmapped,
-        Call::Write { .. } => Reply::Wrote,
-        Call::Read { obj, off, len } => read(boot, entries, *obj, *off, *len),
-        Call::SetState { obj, .. } => Reply::Old(state(entries, *obj)),
-        Call::GetState { obj } => Reply::Is(state(entries, *obj)),
-        Call::Exit => Reply::Exited,
-        _ => unreachable!(),
-    }
+    Ok(shortage(alloc, boot, entries, call)?)
 }
 
 fn read(boot: &Boot, entries: &[Entry], o: ObjId, off: u32, len: u32) -> Reply
@@ -251,15 +241,92 @@ fn read(boot: &Boot, entries: &[Entry], o: ObjId, off: u32, len: u32) -> Reply
     Reply::Bytes(bytes(entries, o, off, len))
 }
 
+fn was_active(boot: &Boot, entries: &[Entry], t: TaskId) -> Reply
+    ensures { result ≡ Reply.Was (bands.active boot.now (reverse entries.now) t) }
+{
+    Reply::Was(task_pass(boot, entries, t).active)
+}
+
+fn ledger(alloc: Global, boot: &Boot, entries: &[Entry], t: TaskId) -> Result<Reply, NoMemory>
+    ensures { IfOk result (λ reply. reply ≡ Reply.Pages (counted.counts boot.now (reverse entries.now) t)) }
+{
+    let rows = all_rows(alloc, boot, entries)?;
+    let counts = counts(boot, entries, &rows, t)?;
+    Ok(Reply::Pages(counts))
+}
+
+fn purged(o: Option<ObjId>) -> Reply
+    ensures { result ≡ option_map_or Reply.Purged o Reply.Nothing }
+{
+    match o {
+        Some(o) => Reply::Purged(o),
+        None => Reply::Nothing,
+    }
+}
+
+fn purge_one(alloc: Global, boot: &Boot, entries: &[Entry]) -> Result<Reply, NoMemory>
+    ensures { IfOk result (λ reply. reply ≡ option_map_or Reply.Purged (choice.pick boot.now (reverse entries.now)) Reply.Nothing) }
+{
+    let rows = all_rows(alloc, boot, entries)?;
+    let o = pick(alloc, boot, entries, &rows)?;
+    Ok(purged(o))
+}
+
+fn purge_forced(alloc: Global, boot: &Boot, entries: &[Entry]) -> Result<Reply, NoMemory>
+    ensures { IfOk result (λ reply. reply ≡ option_map_or Reply.Purged (choice.forced boot.now (reverse entries.now)) Reply.Nothing) }
+{
+    let rows = object_rows(alloc, boot, entries)?;
+    Ok(purged(forced(boot, entries, &rows)))
+}
+
+/// What an accepted call gets.
+fn accepted_answer(
+    alloc: Global,
+    boot: &Boot,
+    entries: &[Entry],
+    t: TaskId,
+    call: &Call,
+) -> Result<Reply, NoMemory>
+    requires { spec.out_of_range boot.now call.now ≡ false }
+    ensures { IfOk result (λ reply. reply ≡ spec.accepted_answer boot.now (reverse entries.now) t call.now) }
+{
+    match call {
+        Call::Map { .. } => Ok(Reply::Mapped),
+        Call::Attach { .. } => Ok(Reply::Attached),
+        Call::Unmap { .. } => Ok(Reply::Unmapped),
+        Call::Write { .. } => Ok(Reply::Wrote),
+        Call::Read { obj, off, len } => Ok(read(boot, entries, *obj, *off, *len)),
+        Call::SetState { obj, .. } => Ok(Reply::Old(state(entries, *obj))),
+        Call::GetState { obj } => Ok(Reply::Is(state(entries, *obj))),
+        Call::Active { .. } => Ok(was_active(boot, entries, t)),
+        Call::Exit => Ok(Reply::Exited),
+        Call::SetBand { .. } => Ok(Reply::Banded),
+        Call::SetLimits { .. } => Ok(Reply::Limited),
+        Call::Ledger => Ok(ledger(alloc, boot, entries, t)?),
+        Call::PurgeOne => Ok(purge_one(alloc, boot, entries)?),
+        Call::Forced => Ok(purge_forced(alloc, boot, entries)?),
+        Call::Scan => Ok(scan(alloc, boot, entries)?),
+        Call::Tick => Ok(tick(alloc, boot, entries)?),
+        Call::Jetsam => Ok(victim(alloc, boot, entries)?),
+        Call::Info => Ok(frames(alloc, boot, entries)?),
+        Call::Purgeables => Ok(tokens(alloc, boot, entries)?),
+    }
+}
+
 /// The answer to a call, over these entries.
 #[tactic(auto, unfolding(kernel_model::specs::Answers::answer))]
-pub fn answer(boot: &Boot, entries: &[Entry], pages: &[PageId], who: ThreadId, call: &Call) -> Reply
-    requires pages { pages.now ≡ places.pages_of boot.now }
-    requires built { IsTrue (slow.is_built call.now) }
-    ensures { result ≡ spec.answer boot.now (reverse entries.now) who call.now }
+pub fn answer(
+    alloc: Global,
+    boot: &Boot,
+    entries: &[Entry],
+    who: ThreadId,
+    call: &Call,
+) -> Result<Reply, NoMemory>
+    ensures { IfOk result (λ reply. reply ≡ spec.answer boot.now (reverse entries.now) who call.now) }
 {
-    match refusal(boot, entries, pages, who, call) {
-        Some(why) => Reply::Refused(why),
-        None => accepted_answer(boot, entries, caller(boot, who), call),
+    let refused = refusal(alloc, boot, entries, who, call)?;
+    match refused {
+        Some(why) => Ok(Reply::Refused(why)),
+        None => Ok(accepted_answer(alloc, boot, entries, caller(boot, who), call)?),
     }
 }

@@ -4,14 +4,11 @@ ghost use Rattle.std.specs.Prelude.{◌≡◌, ◌<◌, ◌≤◌, ◌+◌, ◌+
 ghost use Rattle.std.specs.List.{range_with_len};
 ghost use Rattle.kernel_model.specs.Answers as spec;
 ghost use Rattle.kernel_model.specs.Histories as histories;
-ghost use Rattle.kernel_model.specs.Pages as places;
-ghost use Rattle.slow_kernel.specs.Slow as slow;
 
 use crate::answers::answer;
-use crate::slow::pages_in;
 use kern_ids::calls::Call;
 use kern_ids::entries::{Entry, EntryList, NoMemory};
-use kern_ids::ids::{ObjId, PageId, ThreadId};
+use kern_ids::ids::ThreadId;
 use kern_ids::replies::Reply;
 use kernel_model::boot::Boot;
 use std::alloc::Global;
@@ -22,7 +19,7 @@ use std::marker::Model;
 pub struct SlowKernel {
     boot: Boot,
     entries: EntryList,
-    pages: Vec<PageId>,
+    alloc: Global,
 }
 
 impl Model for SlowKernel {
@@ -31,39 +28,11 @@ impl Model for SlowKernel {
 
     ghost Value = { Slow };
 
-    ghost use Rattle.slow_kernel.specs.SlowInside.{IsSlow};
+    ghost use Rattle.kernel_model.specs.Histories.{Legal};
 
     ghost view = { λ k. record { boot = k.boot; list = k.entries.list } };
 
-    ghost invariant = { λ k. IsSlow k.boot k.entries.list k.pages.items };
-}
-
-/// Appends the pages of an object.
-#[tactic(auto, using(kernel_model::proofs::Ranges::pages_more, kernel_model::proofs::Ranges::pages_none))]
-fn add_pages(pages: &mut Vec<PageId>, o: ObjId, n: u32) -> Result<(), NoMemory>
-    ensures { OnOk result (pages.new.items ≡ pages.old.items ++ places.pages_of_size o n) }
-{
-    for k in 0..n {
-        pages.reserve(1).map_err(|_| NoMemory)?;
-        pages.push_reserved(PageId { obj: o, page: k });
-    }
-    Ok(())
-}
-
-/// All pages, by their objects.
-#[tactic(auto, using(kernel_model::proofs::Ranges::flat_range))]
-fn all_pages(alloc: Global, boot: &Boot) -> Result<Vec<PageId>, NoMemory>
-    ensures { IfOk result (λ pages. pages.items ≡ places.pages_of boot.now) }
-{
-    let mut pages = Vec::new(alloc);
-    let n = boot.objects().len();
-    for i in 0..n {
-        match ObjId::new(i as u32) {
-            Some(o) => add_pages(&mut pages, o, pages_in(boot, o))?,
-            None => unreachable!(),
-        }
-    }
-    Ok(pages)
+    ghost invariant = { λ k. Legal k.boot k.entries.list };
 }
 
 impl SlowKernel {
@@ -74,7 +43,7 @@ impl SlowKernel {
         Ok(SlowKernel {
             boot: boot.copy(alloc)?,
             entries: EntryList::new(alloc),
-            pages: all_pages(alloc, boot)?,
+            alloc,
         })
     }
 
@@ -99,7 +68,7 @@ impl SlowKernel {
         let SlowKernel {
             boot: _,
             entries,
-            pages: _,
+            alloc: _,
         } = self;
         entries
     }
@@ -113,17 +82,10 @@ impl SlowKernel {
 
     /// The answer to a call.
     pub fn answer(&self, who: ThreadId, call: &Call) -> Result<Reply, NoMemory>
-        requires fits { IsTrue (histories.fits self.now.boot who call.now) }
-        requires built { IsTrue (slow.is_built call.now) }
+        requires { IsTrue (histories.fits self.now.boot who call.now) }
         ensures { IfOk result (λ reply. reply ≡ spec.answer self.now.boot (reverse self.now.list) who call.now) }
     {
-        Ok(answer(
-            &self.boot,
-            self.entries.as_slice(),
-            self.pages.as_slice(),
-            who,
-            call,
-        ))
+        Ok(answer(self.alloc, &self.boot, self.entries.as_slice(), who, call)?)
     }
 
     /// Appends an entry.

@@ -2,6 +2,13 @@
 #![tactic(auto)]
 
 pub mod answers;
-pub mod chains;
+pub mod contents;
+pub mod deadlines;
+pub mod groups;
 pub mod kernel;
-pub mod slow;
+pub mod mapping;
+pub mod pages;
+pub mod scan;
+pub mod states;
+pub mod tasks;
+pub mod victims;
