@@ -16,8 +16,8 @@ returns-in-TooLong-clause-front g c =
 
 pub returns-in-Rewritten-clause-front : goal.returns-in-Rewritten-clause-front
 returns-in-Rewritten-clause-front g c =
-    front_of c.write_pieces.result _ _ c.new.result (due_of c.args.self.now).1
-    (c.new.ensures ∙ sym (ap (λ (a : Answer). (due_of a).1) c.in-Rewritten.is)) c.write_pieces.ensures.front
+    front_of c.write_pieces-in-Rewritten.result _ _ c.new-in-Rewritten.result (due_of c.args.self.now).1
+    (c.new-in-Rewritten.ensures ∙ sym (ap (λ (a : Answer). (due_of a).1) c.in-Rewritten.is)) c.write_pieces-in-Rewritten.ensures.front
 
 pub returns-in-Run-clause-front : goal.returns-in-Run-clause-front
 returns-in-Run-clause-front g c =
