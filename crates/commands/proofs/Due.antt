@@ -58,6 +58,7 @@ over_due-named words c limit old new before now e l o =
 
 -- the status of an answer is one of the program's
 pub due_of-listed : (a : Answer) (status : ℕ) → status ≡ (due_of a).0 → Contains (0 ∷ 2 ∷ 3 ∷ 4 ∷ 5 ∷ 7 ∷ 9 ∷ []) status
+due_of-listed (answer.Run s h) status e = (0, omega arith, rw e refl)
 due_of-listed (answer.Rewritten s) status e = (0, omega arith, rw e refl)
 due_of-listed answer.BadWords status e = (1, omega arith, rw e refl)
 due_of-listed (answer.BadLine number why) status e = (2, omega arith, rw e refl)

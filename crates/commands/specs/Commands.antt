@@ -3,11 +3,14 @@ use Rattle.std.specs.Prelude.{ℕ, List, [], ◌∷◌, Option, Some, None, code
 use Rattle.std.specs.Str.{bytes_eq}
 use Rattle.line_text.specs.Cut.{Word}
 use Rattle.commands.specs.declared.command.Command.{Command}
-use Rattle.commands.specs.declared.command.Command.TheVariants.{Migrate}
+use Rattle.commands.specs.declared.command.Command.TheVariants.{Serial, Migrate}
 
 -- the command of a single word
 abbrev pub named : Word → Option Command
-named word = if bytes_eq word (codes "migrate") then Some Migrate else None
+named word =
+    if bytes_eq word (codes "serial") then Some Serial
+    else if bytes_eq word (codes "migrate") then Some Migrate
+    else None
 
 -- the command that the words ask for
 abbrev pub command_of : List Word → Option Command

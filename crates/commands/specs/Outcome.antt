@@ -1,12 +1,14 @@
 -- What the program is to answer and to write.
-use Rattle.std.specs.Prelude.{ℕ, List, length, Option, Some, None, Result, Ok, Err, nat_lt, if◌then◌else◌}
+use Rattle.std.specs.Prelude.{ℕ, List, ◌++◌, length, Option, Some, None, Result, Ok, Err, nat_lt, if◌then◌else◌}
 use Rattle.kern_ids.specs.declared.faults.Why.{Why}
 use Rattle.kernel_model.specs.Scenario.{Plan, two}
+use Rattle.kernel_model.specs.Turns.{serial}
 use Rattle.line_text.specs.Cut.{Word}
 use Rattle.scenario_text.specs.Grammar.{scenario_of}
 use Rattle.scenario_text.specs.Text.{scenario_text}
+use Rattle.history_text.specs.History.{history_text}
 use Rattle.commands.specs.declared.command.Command.{Command}
-use Rattle.commands.specs.declared.command.Command.TheVariants.{Migrate}
+use Rattle.commands.specs.declared.command.Command.TheVariants.{Serial, Migrate}
 use Rattle.commands.specs.Commands.{command_of, limit_of}
 use Rattle.commands.specs.Messages.{bad_words, too_long, bad_line}
 
@@ -14,8 +16,9 @@ use Rattle.commands.specs.Messages.{bad_words, too_long, bad_line}
 abbrev pub Due : Type 0
 Due = ℕ × List ℕ
 
--- what a command writes of a scenario: it in the second form
+-- what a command writes of a scenario: it and its one serial history, or it in the second form
 abbrev pub output : Command → Plan → List ℕ
+output Serial s = scenario_text s ++ history_text (serial s)
 output Migrate s = scenario_text (two s)
 
 -- of an input that was read, or its first fault

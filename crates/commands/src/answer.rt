@@ -7,7 +7,10 @@ ghost use Rattle.commands.specs.Answers.{due_of};
 
 use crate::messages::{bad_line, bad_words, read_fault, too_long};
 use edge::ends::{Failed, Sink};
+use edge::pieces::Both;
 use edge::writing::{WriteBuffer, write_pieces, write_whole};
+use history_text::HistoryPieces;
+use kern_ids::entries::EntryList;
 use kern_ids::faults::Why;
 use kernel_model::scenario::Scenario;
 use scenario_text::ScenarioPieces;
@@ -15,6 +18,8 @@ use scenario_text::ScenarioPieces;
 /// What the program answers.
 #[derive(Drop)]
 pub enum Answer {
+    /// A scenario and its history.
+    Run(Scenario, EntryList),
     /// A scenario.
     Rewritten(Scenario),
     /// The words are those of no command.
@@ -33,7 +38,7 @@ impl Answer {
         ensures { result ≡ (due_of self.now).0 }
     {
         match self {
-            Answer::Rewritten(_) => 0,
+            Answer::Run(..) | Answer::Rewritten(_) => 0,
             Answer::BadWords => 2,
             Answer::BadLine(..) => 3,
             Answer::ReadFault => 4,
@@ -49,6 +54,13 @@ impl Answer {
         ensures cause { OnErr result (Rose (K.fault_count sink.old) (K.fault_count sink.new)) }
     {
         match self {
+            Answer::Run(scenario, history) => {
+                let text = Both {
+                    first: ScenarioPieces::new(scenario),
+                    second: HistoryPieces::new(history),
+                };
+                write_pieces(sink, text, buffer)
+            }
             Answer::Rewritten(scenario) => {
                 write_pieces(sink, ScenarioPieces::new(scenario), buffer)
             }

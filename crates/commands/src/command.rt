@@ -9,6 +9,8 @@ use line_text::is_word;
 /// What the program is asked to do.
 #[derive(Clone, Copy, PartialEq, Eq, Debug)]
 pub enum Command {
+    /// To run a scenario on one thread, and write it and its history.
+    Serial,
     /// To write a scenario in the second form.
     Migrate,
 }
@@ -21,7 +23,7 @@ impl Command {
         ensures small { result < 2 ^ 30 }
     {
         match self {
-            Command::Migrate => 67_108_864,
+            Command::Serial | Command::Migrate => 67_108_864,
         }
     }
 }
@@ -34,7 +36,9 @@ pub fn command_of(words: &Words) -> Option<Command>
         return None;
     }
     let word = words.get(0)?;
-    if is_word(word, b"migrate") {
+    if is_word(word, b"serial") {
+        Some(Command::Serial)
+    } else if is_word(word, b"migrate") {
         Some(Command::Migrate)
     } else {
         None

@@ -16,6 +16,7 @@ use edge::words::Words;
 use kern_ids::entries::NoMemory;
 use kern_ids::faults::ReadFault;
 use scenario_text::read_scenario;
+use serial_run::run_serial;
 use std::alloc::Global;
 
 // What is answered where the input was read whole.
@@ -29,6 +30,10 @@ fn answer_input(alloc: Global, command: Command, input: &[u8]) -> Result<Answer,
         Err(ReadFault::NoMemory) => return Err(NoMemory),
     };
     match command {
+        Command::Serial => {
+            let history = run_serial(alloc, &scenario)?;
+            Ok(Answer::Run(scenario, history))
+        }
         Command::Migrate => Ok(Answer::Rewritten(scenario.into_two())),
     }
 }

@@ -1,4 +1,4 @@
-use Rattle.std.proofs.Common.{ap, sym, ◌∙◌}
+use Rattle.std.proofs.Common.{ap, ap₂, sym, ◌∙◌, ◌++◌, List, ℕ}
 use Rattle.commands.specs.declared.answer.Answer.{Answer}
 use Rattle.commands.specs.Answers.{due_of}
 use Rattle.commands.proofs.Due.{front_of}
@@ -18,3 +18,8 @@ pub returns-in-Rewritten-clause-front : goal.returns-in-Rewritten-clause-front
 returns-in-Rewritten-clause-front g c =
     front_of c.write_pieces.result _ _ c.new.result (due_of c.args.self.now).1
     (c.new.ensures ∙ sym (ap (λ (a : Answer). (due_of a).1) c.in-Rewritten.is)) c.write_pieces.ensures.front
+
+pub returns-in-Run-clause-front : goal.returns-in-Run-clause-front
+returns-in-Run-clause-front g c =
+    front_of c.write_pieces.result _ _ (c.new.result ++ c.new-in-Run.result) (due_of c.args.self.now).1
+    (ap₂ (λ (a b : List ℕ). a ++ b) c.new.ensures c.new-in-Run.ensures ∙ sym (ap (λ (a : Answer). (due_of a).1) c.in-Run.is)) c.write_pieces.ensures.front

@@ -1,0 +1,2 @@
+pub mod TasksFrom
+pub mod Rests

@@ -1,0 +1,45 @@
+//! The run of a scenario on one thread: its calls in the order of its turns, each answered over the
+//! entries before it.
+#![tactic(auto)]
+
+ghost use Rattle.std.specs.Prelude.{◌≡◌, ◌∷◌, reverse, IsTrue, IfOk, OnOk};
+ghost use Rattle.kernel_model.specs.Histories.{fits, Legal};
+ghost use Rattle.kernel_model.specs.Turns.{answered, serial};
+
+use kern_ids::calls::Call;
+use kern_ids::entries::{Entry, EntryList, NoMemory};
+use kern_ids::ids::ThreadId;
+use kernel_model::scenario::Scenario;
+use scenario_turns::Turns;
+use slow_kernel::kernel::SlowKernel;
+use std::alloc::Global;
+
+// Answers a call and appends its entry.
+fn take_turn(kernel: &mut SlowKernel, who: ThreadId, call: &Call) -> Result<(), NoMemory>
+    requires { IsTrue (fits kernel.old.boot who call.now) }
+    ensures boot { kernel.new.boot ≡ kernel.old.boot }
+    ensures ok { OnOk result (reverse kernel.new.list ≡ answered kernel.old.boot (reverse kernel.old.list) (who, call.now) ∷ reverse kernel.old.list) }
+{
+    kernel.legal();
+    let reply = kernel.answer(who, call)?;
+    kernel.push(Entry {
+        who,
+        call: *call,
+        reply,
+    })
+}
+
+/// The history of the scenario's turns.
+pub fn run_serial(alloc: Global, scenario: &Scenario) -> Result<EntryList, NoMemory>
+    ensures serial { IfOk result (λ h. h.list ≡ serial scenario.now) }
+    ensures legal { IfOk result (λ h. Legal scenario.now.boot h.list) }
+{
+    scenario.valid();
+    let mut kernel = SlowKernel::new(alloc, scenario.boot())?;
+    let mut turns = Turns::new(alloc, scenario)?;
+    'turns: while let Some(turn) = turns.next() {
+        take_turn(&mut kernel, turn.0, turn.1)?;
+    }
+    kernel.legal();
+    Ok(kernel.into_history())
+}

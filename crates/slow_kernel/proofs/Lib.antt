@@ -1,0 +1,13 @@
+pub mod Loops
+pub mod Firsts
+pub mod Tables
+pub mod Maps
+pub mod Mappers
+pub mod PageTables
+pub mod ObjectTables
+pub mod DeadlineLists
+pub mod TaskTables
+pub mod VictimTables
+pub mod ScanTables
+pub mod Positions
+pub mod Refused

@@ -1,0 +1,11 @@
+pub mod TimesLemmas
+pub mod ReadLemmas
+pub mod EditLemmas
+pub mod LinkLemmas
+pub mod RingLemmas
+pub mod GapLemmas
+pub mod MarkLemmas
+pub mod TokenLemmas
+pub mod CallLemmas
+pub mod PassLemmas
+pub mod CountLemmas

@@ -1,0 +1,4 @@
+pub mod Slots
+pub mod Ring
+pub mod Dues
+pub mod Gaps
