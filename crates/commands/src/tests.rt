@@ -1,5 +1,3 @@
-ghost use Rattle.std.specs.Prelude.{◌<◌};
-
 use crate::serial_top;
 use edge::memory_sink::MemSink;
 use edge::memory_source::MemSource;
@@ -8,10 +6,13 @@ use std::process::Abort;
 use std::test::Fail;
 
 const OLD: &[u8] =
-    b"jetlab 1\nsystem frames 8 target 8 inactive 3 store 4 critical 0 delay 3\ntask 0 band 5 active 65536 soft inactive 65536 soft\norder\nend\n";
+    b"jetlab 1\nsystem frames 8 target 8 inactive 3 store 4 critical 0 delay 3\ntask 0 band 5 active 65536 soft inactive 65536 soft\nobject 0 task 0 pages 1\nthread 0 task 0\nmap 0\nwrite 0 0 616263\nread 0 0 3\norder 0 0 0\nend\n";
 
 const NEW: &[u8] =
-    b"jetlab 2\nsystem frames 8 target 8 inactive 3 store 4 critical 0\ntask 0 band 5 active 65536 soft inactive 65536 soft delay 3 ageing 1\norder\nend\n";
+    b"jetlab 2\nsystem frames 8 target 8 inactive 3 store 4 critical 0\ntask 0 band 5 active 65536 soft inactive 65536 soft delay 3 ageing 1\nobject 0 task 0 pages 1\nthread 0 task 0\nmap 0\nwrite 0 0 616263\nread 0 0 3\norder 0 0 0\nend\n";
+
+const RUN: &[u8] =
+    b"jetlab 1\nsystem frames 8 target 8 inactive 3 store 4 critical 0 delay 3\ntask 0 band 5 active 65536 soft inactive 65536 soft\nobject 0 task 0 pages 1\nthread 0 task 0\nmap 0\nwrite 0 0 616263\nread 0 0 3\norder 0 0 0\nend\nhistory\n0 map 0 = mapped\n0 write 0 0 616263 = wrote\n0 read 0 0 3 = bytes 616263\ndone 3\n";
 
 const FAULT: &[u8] = b"jetlab: read fault\n";
 
@@ -46,11 +47,11 @@ fn run(rt: &(impl Abort + AllocGlobal), case: &Case<'_>) -> Result<(), Fail> {
     Ok(())
 }
 
-fn good<'a>(input: &'a [u8], piece: usize, text: &'a [u8]) -> Case<'a> {
+fn good<'a>(words: &'a [&'a str], input: &'a [u8], text: &'a [u8]) -> Case<'a> {
     Case {
-        words: &["migrate"],
+        words,
         input,
-        piece,
+        piece: 7,
         reads: &[],
         writes: &[],
         status: 0,
@@ -61,34 +62,41 @@ fn good<'a>(input: &'a [u8], piece: usize, text: &'a [u8]) -> Case<'a> {
 #[test]
 fn pieces(rt: HostRuntime) -> Result<(), Fail> {
     for piece in [1, 2, 7, 1000] {
-        run(&rt, &good(OLD, piece, NEW))?;
-        run(&rt, &good(NEW, piece, NEW))?;
+        for mut case in [
+            good(&["serial"], OLD, RUN),
+            good(&["migrate"], OLD, NEW),
+            good(&["migrate"], NEW, NEW),
+        ] {
+            case.piece = piece;
+            run(&rt, &case)?;
+        }
     }
     Ok(())
 }
 
-// The input is read by 20 calls and the one that finds its end, the text written by 21.
+// The input is read by 31 calls and the one that finds its end, the output written by 43.
 #[test]
 fn failures(rt: HostRuntime) -> Result<(), Fail> {
-    for (call, status, text) in [(0, 4, FAULT), (1, 4, FAULT), (20, 4, FAULT), (21, 0, NEW)] {
-        let mut case = good(OLD, 7, text);
+    for (call, status, text) in [(0, 4, FAULT), (1, 4, FAULT), (31, 4, FAULT), (32, 0, RUN)] {
         let reads = [call];
+        let mut case = good(&["serial"], OLD, text);
         case.reads = &reads;
         case.status = status;
         run(&rt, &case)?;
     }
     for (call, status, text) in [
-        (0, 5, b"".as_slice()),
-        (1, 5, b"jetlab ".as_slice()),
-        (21, 0, NEW),
+        (0, 5, &RUN[..0]),
+        (1, 5, &RUN[..7]),
+        (42, 5, &RUN[..294]),
+        (43, 0, RUN),
     ] {
-        let mut case = good(OLD, 7, text);
         let writes = [call];
+        let mut case = good(&["serial"], OLD, text);
         case.writes = &writes;
         case.status = status;
         run(&rt, &case)?;
     }
-    let mut both = good(OLD, 7, b"jetlab:");
+    let mut both = good(&["serial"], OLD, b"jetlab:");
     both.reads = &[1];
     both.writes = &[1];
     both.status = 5;
@@ -100,12 +108,12 @@ fn bad(rt: HostRuntime) -> Result<(), Fail> {
     for words in [
         &[] as &[&str],
         &[""],
-        &["migrat"],
-        &["migrate", ""],
+        &["seria"],
+        &["serial", ""],
+        &["serial", "x"],
         &["Migrate"],
     ] {
-        let mut case = good(OLD, 7, b"jetlab: bad words\n");
-        case.words = words;
+        let mut case = good(words, OLD, b"jetlab: bad words\n");
         case.status = 2;
         run(&rt, &case)?;
     }
@@ -118,7 +126,7 @@ fn bad(rt: HostRuntime) -> Result<(), Fail> {
             b"jetlab: line 2: limit\n",
         ),
     ] {
-        let mut case = good(input, 7, text);
+        let mut case = good(&["serial"], input, text);
         case.status = 3;
         run(&rt, &case)?;
     }
