@@ -18,3 +18,4 @@ pub mod Answers
 pub mod Histories
 pub mod Scenario
 pub mod Turns
+pub mod Laws

@@ -5,5 +5,6 @@
 
 pub mod boot;
 pub mod events;
+pub mod law;
 pub mod place;
 pub mod scenario;

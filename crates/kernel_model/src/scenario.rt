@@ -44,6 +44,13 @@ impl Script {
         }
     }
 
+    /// The calls, in order.
+    pub fn calls(&self) -> &[Call]
+        ensures { result.now ≡ self.now }
+    {
+        &self.calls
+    }
+
     fn len(&self) -> usize
         ensures { result ≡ length self.now }
     {
@@ -112,7 +119,8 @@ impl Scenario {
 
     /// The form.
     pub fn form(&self) -> Form
-        ensures { result ≡ self.now.form }
+        ensures value { result ≡ self.now.form }
+        ensures valid { IsValidForm result }
     {
         self.form
     }
@@ -150,6 +158,20 @@ impl Scenario {
             Some(script) => script.get(i),
             None => None,
         }
+    }
+
+    /// The scripts, by the numbers of their threads.
+    pub fn scripts(&self) -> &[Script]
+        ensures { result.now ≡ self.now.scripts }
+    {
+        &self.scripts
+    }
+
+    /// The words of the order.
+    pub fn order(&self) -> &[ThreadId]
+        ensures { result.now ≡ self.now.order }
+    {
+        &self.order
     }
 
     /// The number of words of the order, at most 200,000.

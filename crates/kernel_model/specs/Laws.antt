@@ -1,0 +1,8 @@
+-- The words of the laws of one entry more.
+pub mod Kinds
+pub mod Unchanged
+pub mod Frames
+pub mod Literal
+pub mod Order
+pub mod Queues
+pub mod Legal

@@ -1,0 +1,5 @@
+pub mod SharerLemmas
+pub mod OrderLemmas
+pub mod LineLemmas
+pub mod FitLemmas
+pub mod PieceLemmas

@@ -1,0 +1,4 @@
+pub mod Grammar
+pub mod Gives
+pub mod Text
+pub mod Left

@@ -1,0 +1,27 @@
+use kern_ids::calls::Call;
+use kern_ids::ids::ThreadId;
+use kernel_model::boot::{ObjBoot, Side, TaskBoot};
+use kernel_model::scenario::{Scenario, Script};
+
+/// What of a scenario is still to be handed out. A number is that of the next thing of its kind.
+#[derive(Clone, Copy)]
+pub enum Stage<'a> {
+    /// All of it.
+    Head(&'a Scenario),
+    /// From the system line on.
+    System(&'a Scenario),
+    /// These tasks, and all behind the tasks.
+    Tasks(&'a Scenario, &'a [TaskBoot], usize),
+    /// These objects, and all behind the objects.
+    Objects(&'a Scenario, &'a [ObjBoot], usize),
+    /// The threads of these sides and scripts, and the order.
+    Threads(&'a [ThreadId], &'a [Side], &'a [Script], usize),
+    /// These calls, and then as above.
+    Calls(&'a [Call], &'a [ThreadId], &'a [Side], &'a [Script], usize),
+    /// These words of the order.
+    Order(&'a [ThreadId]),
+    /// The end line.
+    End,
+    /// Nothing.
+    Closed,
+}
