@@ -1,5 +1,5 @@
 -- The lists of deadlines.
-use Rattle.std.proofs.Common.{◌≡◌, ℕ, zero, suc, ◌+◌, ◌-◌, ◌<◌, ◌≤◌, List, [], ◌∷◌, ◌++◌, length, take, drop, reverse, get_or, fold, filter, cond, Bool, true, false, ◌&&◌, Option, Some, None, refl, sym, ap, ◌∙◌, nat_le, nat_lt, arith, remove, insert, inl, inr, ap₂, if◌then◌else◌}
+use Rattle.std.proofs.Common.{◌≡◌, ℕ, suc, ◌+◌, ◌-◌, ◌<◌, List, [], ◌∷◌, ◌++◌, length, take, drop, get_or, fold, filter, cond, Bool, true, false, ◌&&◌, Option, Some, None, refl, ap, ◌∙◌, nat_lt, arith, insert, inl, inr, ap₂, if◌then◌else◌}
 use Rattle.std.specs.List.{position_or_len, prefix_len, range_with_len}
 use Rattle.std.specs.Option.{option_map_or}
 use Rattle.std.proofs.Common.{not}
@@ -19,7 +19,7 @@ use Rattle.kernel_model.specs.Groups.{same_queue, standing, volatile, objects_of
 use Rattle.kernel_model.specs.Deadlines.{Deadlines, of_queue, with_queue, without_first, begins_ripe, put_deadline, first_into, after_ripe, after_set, after_purge, set_by, changed, deadlines, after_unmappings as spec_unmappings}
 use Rattle.kernel_model.proofs.Laws.Deadlines.{deadlines-more}
 use Rattle.kernel_model.proofs.Ranges.{range_push}
-use Rattle.slow_kernel.specs.Tables.{past_at, unmapped_at}
+use Rattle.slow_kernel.specs.Tables.{past_at}
 use Rattle.slow_kernel.specs.DeadlineSteps.{first_of, put_some, leaves, after_one, after_to}
 use Rattle.slow_kernel.proofs.Loops.{past_loop}
 use Rattle.slow_kernel.proofs.PageTables.{unmaps_at}

@@ -1,5 +1,5 @@
 -- The first of some numbers at which something is found, as a loop meets it.
-use Rattle.std.proofs.Common.{◌≡◌, ℕ, zero, suc, ◌+◌, ◌-◌, ◌<◌, ◌≤◌, List, [], ◌∷◌, ◌++◌, map, Option, Some, None, refl, sym, ap, ◌∙◌, arith}
+use Rattle.std.proofs.Common.{◌≡◌, ℕ, ◌+◌, List, [], ◌∷◌, ◌++◌, map, Option, Some, None, refl, ap, ◌∙◌}
 use Rattle.std.specs.List.{range_with_len, flat_map}
 use Rattle.kernel_model.specs.Lists.{first_some}
 use Rattle.kernel_model.proofs.Ranges.{range_push}

@@ -1,17 +1,17 @@
 -- The table of who maps an object, one entry more.
-use Rattle.std.proofs.Common.{◌≡◌, ℕ, ◌+◌, ◌<◌, List, [], ◌∷◌, ◌++◌, length, map, find, take, reverse, get_or, cond, Bool, true, false, ◌&&◌, ◌||◌, not, Option, Some, None, option_map, is_some, refl, sym, ap, ap₂, ◌∙◌}
+use Rattle.std.proofs.Common.{◌≡◌, ℕ, ◌+◌, ◌<◌, List, [], ◌∷◌, length, find, get_or, cond, Bool, true, false, ◌&&◌, ◌||◌, not, Option, Some, None, option_map, is_some, refl, sym, ap, ap₂, ◌∙◌}
 use Rattle.std.specs.List.{list_any, range_with_len}
 use Rattle.std.specs.Option.{unwrap_or}
 use Rattle.std.proofs.lemmas.Bool.{or_parts}
 use Rattle.kern_ids.specs.declared.entries.Entry.{Entry}
 use Rattle.kernel_model.specs.System.{System}
-use Rattle.kernel_model.specs.Events.{accepted, is_map, is_attach, is_unmap, is_exit_call, is_by, is_end, killed_by}
+use Rattle.kernel_model.specs.Events.{accepted, is_map, is_attach, is_unmap, is_exit_call, is_by, killed_by}
 use Rattle.kernel_model.specs.Mapping.{live, said_maps, maps, mapped, owner, tasks_of, next_live, next_said}
 use Rattle.slow_kernel.specs.declared.mapping.Mapper.{Mapper}
 use Rattle.slow_kernel.specs.Tables.{mapper, mappers, is_mapping, past_at, unmapped_at, tells_mapping}
 use Rattle.kernel_model.proofs.Laws.Mapping.{live-more, said_maps-more, mapped-is, owner-is}
 use Rattle.slow_kernel.proofs.Loops.{live_loop, said_loop, live_none, said_none, past_loop}
-use Rattle.slow_kernel.proofs.Maps.{list_any_map, find_map, find_same}
+use Rattle.slow_kernel.proofs.Maps.{list_any_map, find_map}
 use Rattle.slow_kernel.proofs.Tables.{map_same}
 
 pub mapper_none : (boot : System) (o t : ℕ) → mapper boot [] o t ≡ record { task = t; live = true; said = false }

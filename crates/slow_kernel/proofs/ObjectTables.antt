@@ -1,12 +1,12 @@
 -- The table of the objects.
-use Rattle.std.proofs.Common.{◌≡◌, ℕ, ◌+◌, ◌<◌, List, [], ◌∷◌, ◌++◌, map, filter, find, length, get_or, reverse, take, Bool, true, false, ◌&&◌, not, Option, option_map, refl, sym, ap, ◌∙◌}
+use Rattle.std.proofs.Common.{◌≡◌, ℕ, ◌+◌, ◌<◌, List, [], ◌∷◌, ◌++◌, find, length, get_or, reverse, take, ◌&&◌, not, Option, option_map, refl, sym, ap, ◌∙◌}
 use Rattle.std.specs.List.{list_any}
 use Rattle.kern_ids.specs.declared.entries.Entry.{Entry}
 use Rattle.kern_ids.specs.declared.calls.Queue.{Queue}
 use Rattle.kern_ids.specs.declared.calls.Queue.TheVariants.{Obsolete, Lifo, Fifo}
 use Rattle.kernel_model.specs.System.{System}
 use Rattle.kernel_model.specs.Newest.{newest}
-use Rattle.kernel_model.specs.Groups.{standing, next_standing, first, stands_in, objects_of}
+use Rattle.kernel_model.specs.Groups.{standing, next_standing, first, objects_of}
 use Rattle.kernel_model.proofs.Laws.Groups.{standing-more}
 use Rattle.slow_kernel.specs.declared.groups.ObjectRow.{ObjectRow}
 use Rattle.slow_kernel.specs.ObjectTables.{object_row, object_rows, row_stands_in, row_before, row_first, or_else, aged_at, aged_to, queued_to, ripe_first}

@@ -1,7 +1,6 @@
 -- What is known of the pages of an object, one entry more.
-use Rattle.std.proofs.Common.{◌≡◌, ℕ, ◌+◌, ◌<◌, List, [], ◌∷◌, ◌++◌, append_assoc, append-nil, subst, arith, length, map, take, reverse, get_or, cond, Bool, true, false, ◌&&◌, ◌||◌, not, Option, Some, None, option_map, refl, sym, ap, ap₂, ◌∙◌, nat_eq}
+use Rattle.std.proofs.Common.{◌≡◌, ℕ, ◌+◌, ◌<◌, List, [], ◌∷◌, ◌++◌, append_assoc, append-nil, subst, arith, length, map, reverse, get_or, Bool, false, ◌&&◌, ◌||◌, not, Option, None, refl, sym, ap, ap₂, ◌∙◌}
 use Rattle.std.specs.List.{range_with_len}
-use Rattle.std.specs.Option.{unwrap_or}
 use Rattle.std.proofs.lemmas.Bool.{or_parts, and_right}
 use Rattle.kern_ids.specs.declared.entries.Entry.{Entry}
 use Rattle.kern_ids.specs.declared.ids.PageId.{PageId}
@@ -13,7 +12,7 @@ use Rattle.kern_ids.specs.declared.replies.Reply.TheVariants.{Moved}
 use Rattle.kernel_model.specs.System.{System}
 use Rattle.kernel_model.specs.Events.{accepted, write_covers, read_covers, reaches_page}
 use Rattle.kernel_model.specs.Mapping.{unmaps, mapped, owner}
-use Rattle.kernel_model.specs.State.{state, is_empty}
+use Rattle.kernel_model.specs.State.{state}
 use Rattle.kernel_model.specs.Contents.{empties_from}
 use Rattle.kernel_model.specs.Pages.{placed, next_placed, touched_since, written, touches_from, move_of, pages_in, pages_of_size, pages_of, is_out, is_active, is_inactive, is_stored, active_pages, inactive_pages, stored_pages}
 use Rattle.kernel_model.specs.Newest.{newest}

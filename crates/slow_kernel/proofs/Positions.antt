@@ -1,7 +1,7 @@
 -- The first place at which a test passes.
-use Rattle.std.proofs.Common.{◌≡◌, ℕ, ◌≤◌, ◌<◌, List, length, cond, Bool, true, false, not, Option, Some, None, refl, sym, ap, arith, nat_lt}
-use Rattle.std.specs.List.{position, position_or_len, prefix_len}
-use Rattle.std.proofs.lemmas.Bool.{ltb-false, ltb-true}
+use Rattle.std.proofs.Common.{◌≡◌, ℕ, ◌≤◌, List, length, cond, Bool, true, false, not, Some, None, refl, arith, nat_lt}
+use Rattle.std.specs.List.{position, position_or_len}
+use Rattle.std.proofs.lemmas.Bool.{ltb-false}
 use Rattle.std.proofs.lemmas.List.Sums.{prefix_len-le-length}
 
 some-at : (b : Bool) (n i : ℕ) → cond b (Some n) None ≡ Some i → i ≡ n

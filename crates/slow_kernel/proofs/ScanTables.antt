@@ -1,7 +1,6 @@
 -- The pages as the scan sees them.
-use Rattle.std.proofs.Common.{◌≡◌, ℕ, List, map, filter, find, Bool, true, false, not, ◌&&◌, Option, Some, None, option_map, refl, sym, ap, ◌∙◌, if◌then◌else◌, nat_le, nat_lt, ◌+◌, ◌<◌, [], ◌∷◌, length, take, get_or, zero, suc, arith}
+use Rattle.std.proofs.Common.{◌≡◌, ℕ, List, filter, find, Bool, true, false, Option, Some, None, option_map, refl, ap, ◌∙◌, if◌then◌else◌, nat_le, nat_lt, ◌+◌, ◌<◌, [], ◌∷◌, length, take, get_or, zero, suc, arith}
 use Rattle.std.specs.Option.{option_map_or}
-use Rattle.std.specs.List.{list_any}
 use Rattle.kern_ids.specs.declared.entries.Entry.{Entry}
 use Rattle.kern_ids.specs.declared.ids.PageId.{PageId}
 use Rattle.kern_ids.specs.declared.replies.Reply.{Reply}

@@ -1,11 +1,11 @@
 -- What is known of a task, one entry more.
-use Rattle.std.proofs.Common.{◌≡◌, ℕ, suc, ◌+◌, ◌<◌, List, [], ◌∷◌, length, take, reverse, get_or, cond, Bool, true, false, ◌&&◌, ◌||◌, Option, Some, None, option_map, refl, sym, ap, ap₂, ◌∙◌, if◌then◌else◌, ◌-◌, ◌≤◌, ◌++◌, not, is_some, nat_eq, slice_get, filter, insert, arith, zero}
+use Rattle.std.proofs.Common.{◌≡◌, ℕ, suc, ◌+◌, ◌<◌, List, [], ◌∷◌, length, get_or, cond, Bool, true, false, ◌&&◌, ◌||◌, Option, Some, None, option_map, refl, ap, ap₂, ◌∙◌, if◌then◌else◌, ◌-◌, ◌≤◌, not, is_some, nat_eq, slice_get, filter, insert, arith}
 use Rattle.std.specs.Option.{option_map_or, unwrap_or}
 use Rattle.kern_ids.specs.declared.entries.Entry.{Entry}
 use Rattle.kern_ids.specs.declared.calls.Limit.{Limit}
 use Rattle.kernel_model.specs.System.{System}
 use Rattle.kernel_model.specs.Newest.{newest, since}
-use Rattle.kernel_model.specs.Bands.{wish, active, limits, placing, ticks, Limits, Placing, says_placing, sets_band, sets_active, restarts, is_tick_call, aged_place, of_task, differs, band, due, counts_for_ageing}
+use Rattle.kernel_model.specs.Bands.{wish, active, limits, placing, ticks, Limits, Placing, sets_band, sets_active, restarts, is_tick_call, aged_place, of_task, differs, band, due, counts_for_ageing}
 use Rattle.kernel_model.proofs.Laws.Bands.{wish-more, active-more, placing-more, ticks-more}
 use Rattle.kernel_model.specs.declared.boot.TaskBoot.{TaskBoot}
 use Rattle.kernel_model.specs.Mapping.{tasks_of}

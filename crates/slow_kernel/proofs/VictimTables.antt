@@ -1,21 +1,18 @@
 -- The tasks as jetsam sees them.
-use Rattle.std.proofs.Common.{◌≡◌, ℕ, ◌+◌, List, map, find, count_by, Bool, true, false, Option, option_map, refl, sym, ap, ap₂, ◌∙◌, if◌then◌else◌, nat_le}
+use Rattle.std.proofs.Common.{◌≡◌, ℕ, ◌+◌, List, find, count_by, true, false, option_map, refl, sym, ap, ap₂, ◌∙◌}
 use Rattle.std.specs.Option.{option_map_or}
 use Rattle.kern_ids.specs.declared.entries.Entry.{Entry}
 use Rattle.kern_ids.specs.declared.replies.Counts.{Counts}
-use Rattle.kern_ids.specs.declared.replies.Reply.{Reply}
-use Rattle.kern_ids.specs.declared.replies.Reply.TheVariants.{Quiet, NoVictim}
-use Rattle.kern_ids.specs.declared.replies.Cause.TheVariants.{Limit as by_limit, HighWater, Pressure}
+use Rattle.kern_ids.specs.declared.replies.Cause.TheVariants.{Limit as by_limit}
 use Rattle.kernel_model.specs.System.{System}
-use Rattle.kernel_model.specs.Mapping.{tasks_of, owner}
-use Rattle.kernel_model.specs.State.{state}
+use Rattle.kernel_model.specs.Mapping.{tasks_of}
 use Rattle.kernel_model.specs.Groups.{is_volatile_state}
-use Rattle.kernel_model.specs.Pages.{placed, pages_of, is_stored, free}
+use Rattle.kernel_model.specs.Pages.{placed, pages_of, is_stored}
 use Rattle.kernel_model.specs.Counted.{counts, count_of, is_resident, is_nonvolatile_state}
-use Rattle.kernel_model.specs.Victims.{victim, killed_for, least_task}
+use Rattle.kernel_model.specs.Victims.{victim, killed_for}
 use Rattle.slow_kernel.specs.declared.victims.VictimRow.{VictimRow}
 use Rattle.slow_kernel.specs.declared.victims.Among.{Among}
-use Rattle.slow_kernel.specs.declared.victims.Among.TheVariants.{OverFatal, OverSoft, Eligible}
+use Rattle.slow_kernel.specs.declared.victims.Among.TheVariants.{OverFatal}
 use Rattle.slow_kernel.specs.Tables.{page_row, all_rows}
 use Rattle.slow_kernel.specs.VictimTables.{row_counts, victim_row, victim_rows, row_among, row_lower, row_least, least_among, within_limits}
 use Rattle.slow_kernel.proofs.Maps.{count_by_map, least_filter_map}

@@ -1,5 +1,5 @@
 -- The pages as the scan sees them.
-use Rattle.std.specs.Prelude.{ℕ, List, map, Bool, ◌&&◌, not, Option, Some, None, if◌then◌else◌, nat_lt}
+use Rattle.std.specs.Prelude.{List, Bool, ◌&&◌, not, Option, Some, None, if◌then◌else◌, nat_lt}
 use Rattle.std.specs.Option.{option_map_or}
 use Rattle.std.specs.List.{list_any}
 use Rattle.kern_ids.specs.declared.entries.Entry.{Entry}

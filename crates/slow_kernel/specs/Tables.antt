@@ -1,10 +1,9 @@
 -- Tables that are kept while the entries are looked through, and rewritten in place.
-use Rattle.std.specs.Prelude.{◌≡◌, ℕ, ◌+◌, List, ◌++◌, length, map, take, drop, reverse, Bool, ◌&&◌, ◌||◌, not, false, true, Option, Some, if◌then◌else◌, is_some, nat_eq}
+use Rattle.std.specs.Prelude.{◌≡◌, ℕ, ◌+◌, List, ◌++◌, map, take, drop, reverse, Bool, ◌&&◌, ◌||◌, not, false, true, Some, if◌then◌else◌, is_some, nat_eq}
 use Rattle.std.specs.List.{range_with_len}
 use Rattle.kern_ids.specs.declared.entries.Entry.{Entry}
 use Rattle.kern_ids.specs.declared.ids.PageId.{PageId}
 use Rattle.kern_ids.specs.declared.calls.State.{State}
-use Rattle.kernel_model.specs.declared.place.Placed.{Placed}
 use Rattle.kernel_model.specs.declared.place.Place.{Place}
 use Rattle.kernel_model.specs.Lists.{some_if}
 use Rattle.std.specs.Option.{unwrap_or}

@@ -2,7 +2,6 @@
 use Rattle.std.specs.Prelude.{ℕ, suc, ◌+◌, List, length, Bool, true, false, ◌&&◌, ◌||◌, not, Option, Some, None, is_some, if◌then◌else◌, nat_eq, nat_lt, nat_le, option_map}
 use Rattle.std.specs.Option.{option_map_or, unwrap_or}
 use Rattle.kern_ids.specs.declared.entries.Entry.{Entry}
-use Rattle.kern_ids.specs.declared.calls.Limit.{Limit}
 use Rattle.kernel_model.specs.System.{System}
 use Rattle.kernel_model.specs.Events.{accepted}
 use Rattle.kernel_model.specs.Lists.{pair_lt, put, in_order}

@@ -1,4 +1,4 @@
-use Rattle.std.proofs.Common.{◌≡◌, ◌∙◌, sym, nat_lt, ap, arith}
+use Rattle.std.proofs.Common.{◌∙◌, sym, nat_lt, arith}
 use Rattle.slow_kernel.proofs.Positions.{position_at, position_past, position_bound}
 use Rattle.slow_kernel.proofs.deadlines.place_for.Goals as goal
 

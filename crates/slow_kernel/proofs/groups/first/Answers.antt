@@ -1,4 +1,4 @@
-use Rattle.std.proofs.Common.{◌≡◌, reverse, ◌∙◌}
+use Rattle.std.proofs.Common.{reverse, ◌∙◌}
 use Rattle.slow_kernel.proofs.ObjectTables.{first_rows}
 use Rattle.slow_kernel.proofs.groups.first.Goals as goal
 

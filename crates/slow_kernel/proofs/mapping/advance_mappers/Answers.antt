@@ -1,6 +1,6 @@
 use Rattle.std.proofs.Common.{◌≡◌, ◌+◌, sym, ◌∙◌, ap, ap₂, ◌&&◌, not}
 use Rattle.std.specs.List.{list_any}
-use Rattle.slow_kernel.specs.Tables.{is_mapping, mappers, past_at, tells_mapping}
+use Rattle.slow_kernel.specs.Tables.{is_mapping, mappers, past_at}
 use Rattle.slow_kernel.proofs.Mappers.{mappers_quiet, unmapped_quiet, unmapped_from}
 use Rattle.slow_kernel.proofs.mapping.advance_mappers.Goals as goal
 use Rattle.slow_kernel.proofs.mapping.advance_mappers.Goals.{Then-not-tells_mapping}

@@ -1,6 +1,6 @@
-use Rattle.std.proofs.Common.{◌≡◌, ℕ, ◌+◌, ◌<◌, length, sym, ap, ◌∙◌, arith, get_or}
+use Rattle.std.proofs.Common.{◌≡◌, ◌+◌, length, sym, ap, ◌∙◌, arith}
 use Rattle.slow_kernel.specs.declared.mapping.Mapper.{Mapper}
-use Rattle.slow_kernel.specs.Tables.{mapper, mixed, past_at}
+use Rattle.slow_kernel.specs.Tables.{mapper, past_at}
 use Rattle.slow_kernel.proofs.Tables.{mixed_start, mixed_all, mixed_at, mixed_step, table_length}
 use Rattle.slow_kernel.proofs.mapping.update_mappers.Goals as goal
 use Rattle.slow_kernel.proofs.mapping.update_mappers.Goals.{After-index-mappers-k}

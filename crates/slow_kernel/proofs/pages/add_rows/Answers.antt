@@ -1,4 +1,4 @@
-use Rattle.std.proofs.Common.{◌≡◌, ◌<◌, ◌∙◌, reverse, length, sym, arith}
+use Rattle.std.proofs.Common.{◌∙◌, reverse, sym, arith}
 use Rattle.kernel_model.specs.Pages.{pages_in}
 use Rattle.slow_kernel.specs.Tables.{IsKnown, facts, page, page_row}
 use Rattle.slow_kernel.proofs.Mappers.{owner_from}

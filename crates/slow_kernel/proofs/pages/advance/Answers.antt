@@ -1,7 +1,6 @@
-use Rattle.std.proofs.Common.{◌≡◌, ◌+◌, sym, ◌∙◌, ap, arith}
+use Rattle.std.proofs.Common.{sym, ◌∙◌, ap, arith}
 use Rattle.std.proofs.lemmas.List.{with_items_is}
 use Rattle.kernel_model.specs.State.{next_state}
-use Rattle.slow_kernel.specs.Tables.{past_at}
 use Rattle.slow_kernel.proofs.Loops.{state_loop}
 use Rattle.slow_kernel.proofs.pages.advance.Goals as goal
 

@@ -1,5 +1,5 @@
-use Rattle.std.proofs.Common.{◌≡◌, ◌+◌, sym, ◌∙◌, ap₂, false}
-use Rattle.slow_kernel.specs.Tables.{past_at, unmapped_at, tells_pages}
+use Rattle.std.proofs.Common.{sym, ◌∙◌, ap₂}
+use Rattle.slow_kernel.specs.Tables.{tells_pages}
 use Rattle.slow_kernel.proofs.PageTables.{pages_quiet}
 use Rattle.slow_kernel.proofs.pages.advance_pages.Goals as goal
 

@@ -1,4 +1,4 @@
-use Rattle.std.proofs.Common.{◌≡◌, sym}
+use Rattle.std.proofs.Common.{sym}
 use Rattle.slow_kernel.proofs.Loops.{state_none}
 use Rattle.slow_kernel.proofs.pages.look_through.Goals as goal
 

@@ -1,6 +1,6 @@
-use Rattle.std.proofs.Common.{◌≡◌, ℕ, ◌+◌, ◌<◌, length, sym, ap, ◌∙◌, arith, get_or}
+use Rattle.std.proofs.Common.{◌+◌, sym, ◌∙◌, arith}
 use Rattle.kernel_model.specs.Pages.{pages_in}
-use Rattle.slow_kernel.specs.Tables.{page, facts, mixed, past_at}
+use Rattle.slow_kernel.specs.Tables.{page, facts, past_at}
 use Rattle.slow_kernel.proofs.Tables.{mixed_start, mixed_all, mixed_at, mixed_step, table_length}
 use Rattle.slow_kernel.proofs.PageTables.{facts_step}
 use Rattle.slow_kernel.proofs.pages.update_pages.Goals as goal

@@ -1,4 +1,4 @@
-use Rattle.std.proofs.Common.{◌≡◌, ◌+◌, length}
+use Rattle.std.proofs.Common.{◌≡◌, ◌+◌}
 use Rattle.kernel_model.specs.Pages.{pages_in}
 use Rattle.slow_kernel.specs.Tables.{page, facts, mixed, past_at}
 use Rattle.slow_kernel.proofs.pages.update_pages.Given as goal

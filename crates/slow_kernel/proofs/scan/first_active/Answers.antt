@@ -1,4 +1,4 @@
-use Rattle.std.proofs.Common.{◌≡◌, ◌∙◌, sym, ap, reverse, option_map}
+use Rattle.std.proofs.Common.{◌∙◌, sym, ap, reverse, option_map}
 use Rattle.std.specs.Option.{option_copied}
 use Rattle.slow_kernel.specs.declared.pages.PageRow.{PageRow}
 use Rattle.slow_kernel.proofs.ScanTables.{first_active_rows}

@@ -1,4 +1,4 @@
-use Rattle.std.proofs.Common.{◌≡◌, sym}
+use Rattle.std.proofs.Common.{sym}
 use Rattle.slow_kernel.proofs.ScanTables.{last_more}
 use Rattle.slow_kernel.proofs.scan.last_of.Goals as goal
 

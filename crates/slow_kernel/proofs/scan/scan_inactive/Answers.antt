@@ -1,4 +1,4 @@
-use Rattle.std.proofs.Common.{◌≡◌, ◌∙◌, sym, ap, reverse, nat_lt}
+use Rattle.std.proofs.Common.{◌∙◌, sym, ap, reverse, nat_lt}
 use Rattle.std.specs.Option.{option_copied, option_map_or}
 use Rattle.kern_ids.specs.declared.replies.Reply.TheVariants.{Idle}
 use Rattle.kernel_model.specs.Pages.{stored_pages}

@@ -1,4 +1,4 @@
-use Rattle.std.proofs.Common.{◌≡◌, ◌∙◌, sym, reverse}
+use Rattle.std.proofs.Common.{◌∙◌, sym, reverse}
 use Rattle.std.proofs.lemmas.Result.{on_ok_weaker}
 use Rattle.slow_kernel.proofs.TaskTables.{with_due_yes, with_due_no}
 use Rattle.slow_kernel.proofs.tasks.add_due.Goals as goal

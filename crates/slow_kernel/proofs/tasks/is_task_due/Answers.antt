@@ -1,4 +1,4 @@
-use Rattle.std.proofs.Common.{◌≡◌, ◌∙◌, ap, reverse}
+use Rattle.std.proofs.Common.{◌∙◌, ap, reverse}
 use Rattle.slow_kernel.specs.TaskTables.{row_due}
 use Rattle.slow_kernel.proofs.TaskTables.{due_from}
 use Rattle.slow_kernel.proofs.tasks.is_task_due.Goals as goal

@@ -1,4 +1,4 @@
-use Rattle.std.proofs.Common.{◌≡◌, ◌∙◌, sym, arith, reverse}
+use Rattle.std.proofs.Common.{◌∙◌, sym, arith, reverse}
 use Rattle.kernel_model.specs.Victims.{band_lt}
 use Rattle.slow_kernel.proofs.Positions.{position_at, position_past, position_bound}
 use Rattle.slow_kernel.proofs.tasks.place_for.Goals as goal

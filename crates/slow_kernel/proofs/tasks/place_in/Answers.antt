@@ -1,4 +1,4 @@
-use Rattle.std.proofs.Common.{◌≡◌, ◌<◌, ◌≤◌, ◌∙◌, sym, nat_eq, length, arith}
+use Rattle.std.proofs.Common.{◌∙◌, sym, nat_eq, length, arith}
 use Rattle.std.proofs.lemmas.List.Sums.{position_or_len_is}
 use Rattle.slow_kernel.proofs.tasks.place_in.Goals as goal
 

@@ -1,4 +1,4 @@
-use Rattle.std.proofs.Common.{◌≡◌, ◌≤◌, ◌∙◌, sym, arith}
+use Rattle.std.proofs.Common.{◌∙◌, sym, arith}
 use Rattle.slow_kernel.proofs.TaskTables.{task_pass_none}
 use Rattle.slow_kernel.proofs.tasks.task_pass.Goals as goal
 
