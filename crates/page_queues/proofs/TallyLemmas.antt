@@ -32,12 +32,12 @@ count_of-without : (o key : ℕ) (keys : List ℕ) → IsOnce keys → has key k
 count_of-without o key [] p m = absurd (false≢true m)
 count_of-without o key (x ∷ xs) p m = elim (cases_eq key x) [
   | inl e ↦
-    ap (λ ys. count_of o ys + one_if (is_of o key)) (without_head key x xs e ∙ without_absent key xs (ap (λ i. has i xs) e ∙ p.0))
-    ∙ ap (λ i. count_of o xs + one_if (is_of o i)) e
-    ∙ elim (cases_Bool (is_of o x)) [ inl b ↦ rw b (omega arith) | inr b ↦ rw b (omega arith) ]
+      ap (λ ys. count_of o ys + one_if (is_of o key)) (without_head key x xs e ∙ without_absent key xs (ap (λ i. has i xs) e ∙ p.0))
+      ∙ ap (λ i. count_of o xs + one_if (is_of o i)) e
+      ∙ elim (cases_Bool (is_of o x)) [ inl b ↦ rw b (omega arith) | inr b ↦ rw b (omega arith) ]
   | inr e ↦
-    ap (λ ys. count_of o ys + one_if (is_of o key)) (without_other key x xs e)
-    ∙ (let l = count_of-without o key xs p.1 (other_in_rest key x xs m e) in elim (cases_Bool (is_of o x)) [ inl b ↦ rw b (omega arith) | inr b ↦ rw b (omega arith) ])
+      ap (λ ys. count_of o ys + one_if (is_of o key)) (without_other key x xs e)
+      ∙ (let l = count_of-without o key xs p.1 (other_in_rest key x xs m e) in elim (cases_Bool (is_of o x)) [ inl b ↦ rw b (omega arith) | inr b ↦ rw b (omega arith) ])
 ]
 
 count_of_le : (o : ℕ) (keys : List ℕ) → count_of o keys ≤ length keys
@@ -77,36 +77,36 @@ module _ {objects : ℕ} {kept : KeyLists} {lengths counts : List ℕ} (h : IsTa
     each_count = length-set counts (3 * (key / 256) + l) y ∙ h.each_count;
     lengths_are = λ m mt. elim (cases_eq m l) [
       | inl e ↦
-        ap (λ j. get_or (set lengths l x) j 0) e
-        ∙ get_or-set_same lengths l x 0 (omega (arith, h.each_length))
-        ∙ ex
-        ∙ (let was = h.lengths_are l lt in let more = length-append (list_at kept.lists l) (key ∷ []) in omega arith)
-        ∙ sym (ap length (now_at after l key lt lists)) 
-        ∙ ap (λ j. length (list_at after.lists j)) (sym e)
+          ap (λ j. get_or (set lengths l x) j 0) e
+          ∙ get_or-set_same lengths l x 0 (omega (arith, h.each_length))
+          ∙ ex
+          ∙ (let was = h.lengths_are l lt in let more = length-append (list_at kept.lists l) (key ∷ []) in omega arith)
+          ∙ sym (ap length (now_at after l key lt lists))
+          ∙ ap (λ j. length (list_at after.lists j)) (sym e)
       | inr e ↦ get_or-set_other lengths l m x 0 e ∙ h.lengths_are m mt ∙ sym (ap length (now_other after l key m lists e))
     ];
     counts_are = λ o m ol mt. elim (cases_eq m l) [
       | inl e ↦ elim (cases_eq (key / 256) o) [
         | inl s ↦
-          ap (λ j. get_or (set counts (3 * (key / 256) + l) y) j 0) (omega arith)
-          ∙ get_or-set_same counts (3 * (key / 256) + l) y 0 (omega (arith, h.each_count))
-          ∙ ey
-          ∙ (let was = h.counts_are (key / 256) l ok lt in let more = count_of-push (key / 256) key (list_at kept.lists l) in let one = ap one_if (eq-eqb (key / 256) (key / 256) refl) in omega arith)
-          ∙ sym (ap (count_of (key / 256)) (now_at after l key lt lists))
-          ∙ ap (λ j. count_of (key / 256) (list_at after.lists j)) (sym e)
-          ∙ ap (λ j. count_of j (list_at after.lists m)) s
+            ap (λ j. get_or (set counts (3 * (key / 256) + l) y) j 0) (omega arith)
+            ∙ get_or-set_same counts (3 * (key / 256) + l) y 0 (omega (arith, h.each_count))
+            ∙ ey
+            ∙ (let was = h.counts_are (key / 256) l ok lt in let more = count_of-push (key / 256) key (list_at kept.lists l) in let one = ap one_if (eq-eqb (key / 256) (key / 256) refl) in omega arith)
+            ∙ sym (ap (count_of (key / 256)) (now_at after l key lt lists))
+            ∙ ap (λ j. count_of (key / 256) (list_at after.lists j)) (sym e)
+            ∙ ap (λ j. count_of j (list_at after.lists m)) s
         | inr s ↦
-          get_or-set_other counts (3 * (key / 256) + l) (3 * o + m) y 0 (λ j. s (omega arith))
-          ∙ h.counts_are o m ol mt
-          ∙ ap (λ j. count_of o (list_at kept.lists j)) e
-          ∙ (let more = count_of-push o key (list_at kept.lists l) in let none = ap one_if (ne_eqb (key / 256) o s) in omega arith)
-          ∙ sym (ap (count_of o) (now_at after l key lt lists))
-          ∙ ap (λ j. count_of o (list_at after.lists j)) (sym e)
+            get_or-set_other counts (3 * (key / 256) + l) (3 * o + m) y 0 (λ j. s (omega arith))
+            ∙ h.counts_are o m ol mt
+            ∙ ap (λ j. count_of o (list_at kept.lists j)) e
+            ∙ (let more = count_of-push o key (list_at kept.lists l) in let none = ap one_if (ne_eqb (key / 256) o s) in omega arith)
+            ∙ sym (ap (count_of o) (now_at after l key lt lists))
+            ∙ ap (λ j. count_of o (list_at after.lists j)) (sym e)
       ]
       | inr e ↦
-        get_or-set_other counts (3 * (key / 256) + l) (3 * o + m) y 0 (λ j. e (omega arith))
-        ∙ h.counts_are o m ol mt
-        ∙ sym (ap (count_of o) (now_other after l key m lists e))
+          get_or-set_other counts (3 * (key / 256) + l) (3 * o + m) y 0 (λ j. e (omega arith))
+          ∙ h.counts_are o m ol mt
+          ∙ sym (ap (count_of o) (now_other after l key m lists e))
     ];
   }
 
@@ -136,36 +136,36 @@ module _ {objects : ℕ} {kept : KeyLists} {lengths counts : List ℕ} (h : IsTa
         each_count = length-set counts (3 * (key / 256) + l) y ∙ h.each_count;
         lengths_are = λ m mt. elim (cases_eq m l) [
           | inl e ↦
-            ap (λ j. get_or (set lengths l x) j 0) e
-            ∙ get_or-set_same lengths l x 0 (omega (arith, h.each_length))
-            ∙ ex
-            ∙ (let was = h.lengths_are l lt in let less = length-without key (list_at kept.lists l) (once.within l at.0) at.2 in omega arith)
-            ∙ sym (ap length (gone_at after key l lt lists))
-            ∙ ap (λ j. length (list_at after.lists j)) (sym e)
+              ap (λ j. get_or (set lengths l x) j 0) e
+              ∙ get_or-set_same lengths l x 0 (omega (arith, h.each_length))
+              ∙ ex
+              ∙ (let was = h.lengths_are l lt in let less = length-without key (list_at kept.lists l) (once.within l at.0) at.2 in omega arith)
+              ∙ sym (ap length (gone_at after key l lt lists))
+              ∙ ap (λ j. length (list_at after.lists j)) (sym e)
           | inr e ↦ get_or-set_other lengths l m x 0 e ∙ h.lengths_are m mt ∙ sym (ap length (gone_other after key l m place mt lists e))
         ];
         counts_are = λ o m ol mt. elim (cases_eq m l) [
           | inl e ↦ elim (cases_eq (key / 256) o) [
             | inl s ↦
-              ap (λ j. get_or (set counts (3 * (key / 256) + l) y) j 0) (omega arith)
-              ∙ get_or-set_same counts (3 * (key / 256) + l) y 0 (omega (arith, h.each_count))
-              ∙ ey
-              ∙ (let was = h.counts_are (key / 256) l ok lt in let less = count_of-without (key / 256) key (list_at kept.lists l) (once.within l at.0) at.2 in let one = ap one_if (eq-eqb (key / 256) (key / 256) refl) in omega arith)
-              ∙ sym (ap (count_of (key / 256)) (gone_at after key l lt lists))
-              ∙ ap (λ j. count_of (key / 256) (list_at after.lists j)) (sym e)
-              ∙ ap (λ j. count_of j (list_at after.lists m)) s
+                ap (λ j. get_or (set counts (3 * (key / 256) + l) y) j 0) (omega arith)
+                ∙ get_or-set_same counts (3 * (key / 256) + l) y 0 (omega (arith, h.each_count))
+                ∙ ey
+                ∙ (let was = h.counts_are (key / 256) l ok lt in let less = count_of-without (key / 256) key (list_at kept.lists l) (once.within l at.0) at.2 in let one = ap one_if (eq-eqb (key / 256) (key / 256) refl) in omega arith)
+                ∙ sym (ap (count_of (key / 256)) (gone_at after key l lt lists))
+                ∙ ap (λ j. count_of (key / 256) (list_at after.lists j)) (sym e)
+                ∙ ap (λ j. count_of j (list_at after.lists m)) s
             | inr s ↦
-              get_or-set_other counts (3 * (key / 256) + l) (3 * o + m) y 0 (λ j. s (omega arith))
-              ∙ h.counts_are o m ol mt
-              ∙ ap (λ j. count_of o (list_at kept.lists j)) e
-              ∙ (let less = count_of-without o key (list_at kept.lists l) (once.within l at.0) at.2 in let none = ap one_if (ne_eqb (key / 256) o s) in omega arith)
-              ∙ sym (ap (count_of o) (gone_at after key l lt lists))
-              ∙ ap (λ j. count_of o (list_at after.lists j)) (sym e)
+                get_or-set_other counts (3 * (key / 256) + l) (3 * o + m) y 0 (λ j. s (omega arith))
+                ∙ h.counts_are o m ol mt
+                ∙ ap (λ j. count_of o (list_at kept.lists j)) e
+                ∙ (let less = count_of-without o key (list_at kept.lists l) (once.within l at.0) at.2 in let none = ap one_if (ne_eqb (key / 256) o s) in omega arith)
+                ∙ sym (ap (count_of o) (gone_at after key l lt lists))
+                ∙ ap (λ j. count_of o (list_at after.lists j)) (sym e)
           ]
           | inr e ↦
-            get_or-set_other counts (3 * (key / 256) + l) (3 * o + m) y 0 (λ j. e (omega arith))
-            ∙ h.counts_are o m ol mt
-            ∙ sym (ap (count_of o) (gone_other after key l m place mt lists e))
+              get_or-set_other counts (3 * (key / 256) + l) (3 * o + m) y 0 (λ j. e (omega arith))
+              ∙ h.counts_are o m ol mt
+              ∙ sym (ap (count_of o) (gone_other after key l m place mt lists e))
         ];
       }
 

@@ -82,6 +82,8 @@ without_object o n queues = map (filter (λ key. not (is_of_first o n key))) que
 
 -- how the pages are kept: no more of them have frames than there are frames, and only Inactive ones are marked
 pub record AreKept (objects : ℕ) (pages : Pages) : Type 0 where
+  pub few : objects ≤ 256
+  pub three : length pages.queues ≡ 3
   pub each_size : length pages.sizes ≡ objects
   pub small : (o : ℕ) → slice_index_or pages.sizes o 0 ≤ 256
   pub marks : length pages.marks ≡ 256 * objects

@@ -27,6 +27,14 @@ pub(crate) fn page_of(key: usize) -> PageId
     }
 }
 
+/// A copy of the sizes of objects.
+pub(crate) fn copied(alloc: Global, sizes: &[u32]) -> Result<Vec<u32>, NoMemory>
+    ensures { IfOk result (λ made. made.items ≡ sizes.now) }
+{
+    let made = Vec::from_slice(alloc, sizes).map_err(|_| NoMemory)?;
+    Ok(made)
+}
+
 /// n times false.
 pub(crate) fn all_false(alloc: Global, n: usize) -> Result<Vec<bool>, NoMemory>
     ensures { IfOk result (λ made. made.items ≡ replicate n false) }

@@ -5,7 +5,7 @@ ghost use Rattle.std.specs.Prelude.{◌≡◌, ◌≤◌, ◌<◌, ◌⊎◌, �
 ghost use Rattle.kern_ids.specs.declared.ids.PageId.{PageId};
 ghost use Rattle.link_list.specs.KeyLists.{has, list_at};
 ghost use Rattle.page_queues.specs.Tallies.{count_of};
-ghost use Rattle.page_queues.specs.Pages.{IsPage, key_of, page_of, active, inactive, stored, place, is_out, is_inactive, free, is_marked, placed, absented};
+ghost use Rattle.page_queues.specs.Pages.{IsPage, key_of, page_of, active, inactive, stored, place, is_out, is_inactive, free, is_marked, placed, absented, is_of_first, without_object};
 
 mod keys;
 mod tallied;
@@ -15,7 +15,7 @@ mod tests;
 use kern_ids::entries::NoMemory;
 use kern_ids::ids::{ObjId, PageId};
 use kernel_model::place::Place;
-use keys::{all_false, key_of, page_of};
+use keys::{all_false, copied, key_of, page_of};
 use std::alloc::Global;
 use std::marker::Model;
 use tallied::{ACTIVE, INACTIVE, STORED, Tallied};
@@ -67,7 +67,7 @@ impl PageQueues {
     {
         Ok(PageQueues {
             frames,
-            sizes: Vec::from_slice(alloc, sizes).map_err(|_| NoMemory)?,
+            sizes: copied(alloc, sizes)?,
             queues: Tallied::new(alloc, sizes.len())?,
             marks: all_false(alloc, 256 * sizes.len())?,
         })
@@ -78,7 +78,7 @@ impl PageQueues {
         requires page { IsPage self.now p }
         ensures { result ≡ place self.now p }
     {
-        match self.queues.list_of(key_of(p)) {
+        match self.queues.list_of(self.key(p)) {
             None => Place::Absent,
             Some(ACTIVE) => Place::Active,
             Some(INACTIVE) => Place::Inactive,
@@ -97,7 +97,8 @@ impl PageQueues {
         if self.counts().free == 0 {
             return false;
         }
-        self.move_to(key_of(p), ACTIVE);
+        let key = self.key(p);
+        self.move_to(key, ACTIVE);
         true
     }
 
@@ -106,7 +107,7 @@ impl PageQueues {
         requires page { IsPage self.old p }
         ensures { self.new ≡ (if is_inactive (place self.old p) then record self.old { marks = set self.old.marks (key_of p) true } else self.old) }
     {
-        let key = key_of(p);
+        let key = self.key(p);
         match self.queues.list_of(key) {
             Some(INACTIVE) => self.marks[key] = true,
             _ => {}
@@ -199,6 +200,42 @@ impl PageQueues {
             inactive: self.queues.count(object, INACTIVE),
             stored: self.queues.count(object, STORED),
         }
+    }
+
+    /// All pages of an object become Absent. Answers how many of them were Inactive.
+    pub fn drop_object(&mut self, o: ObjId) -> u32
+        requires object { o < length self.old.sizes }
+        ensures count { result ≡ count_of o (inactive self.old) }
+        ensures frames { self.new.frames ≡ self.old.frames }
+        ensures sizes { self.new.sizes ≡ self.old.sizes }
+        ensures queues { self.new.queues ≡ without_object o (slice_index_or self.old.sizes o 0) self.old.queues }
+        ensures marks { (key : ℕ) → is_marked self.new key ≡ (is_marked self.old key && not (is_of_first o (slice_index_or self.old.sizes o 0) key)) }
+    {
+        let inactive = self.object_counts(o).inactive;
+        for page in 0..self.size(o) {
+            self.make_absent(key_of(PageId { obj: o, page }));
+        }
+        inactive
+    }
+
+    /// The number of the pages of an object.
+    fn size(&self, o: ObjId) -> u32
+        requires object { o < length self.now.sizes }
+        ensures value { result ≡ slice_index_or self.now.sizes o 0 }
+        ensures few { result ≤ 256 }
+        ensures keys { length self.now.marks ≡ 256 * length self.now.sizes }
+    {
+        self.sizes[o.get() as usize]
+    }
+
+    /// The key of a page.
+    fn key(&self, p: PageId) -> usize
+        requires page { IsPage self.now p }
+        ensures value { result ≡ key_of p }
+        ensures bound { result < length self.now.marks }
+    {
+        let _ = &self.marks;
+        key_of(p)
     }
 
     /// The first key of a list that isn't empty.

@@ -11,7 +11,9 @@ use std::marker::Model;
 
 /// The numbers of the three lists.
 pub(crate) const ACTIVE: usize = 0;
+
 pub(crate) const INACTIVE: usize = 1;
+
 pub(crate) const STORED: usize = 2;
 
 /// Three lists of the keys of pages. The key of page p of object o is 256 o + p.
