@@ -1,12 +1,12 @@
 -- What the queues of pages keep when a page is moved.
-use Rattle.std.proofs.Common.{◌≡◌, ℕ, Bool, true, false, ◌+◌, ◌-◌, ◌*◌, ◌<◌, ◌≤◌, ◌⊎◌, inl, inr, List, [], ◌∷◌, ◌++◌, length, get_or, set, map, filter, not, replicate, refl, sym, ap, ◌∙◌, arith, subst, eqb}
+use Rattle.std.proofs.Common.{◌≡◌, ℕ, Bool, true, false, ◌+◌, ◌*◌, ◌<◌, ◌≤◌, ◌⊎◌, inl, inr, List, [], ◌∷◌, ◌++◌, length, get_or, set, not, replicate, refl, sym, ap, ◌∙◌, arith, eqb}
 use Rattle.std.proofs.lemmas.List.{length-append, length-set, length-map, length-replicate, get_or-map, get_or-replicate, get_or-set_same, get_or-set_other, get_or_past}
 use Rattle.std.proofs.lemmas.List.Filters.{length-filter_both}
 use Rattle.std.proofs.lemmas.Bool.{cases_eq, cases_lt, false≢true}
 use Rattle.link_list.specs.KeyLists.{list_at, has, without}
-use Rattle.link_list.proofs.Members.{has_head, other_in_rest, without_head, without_other, has_without_other, has_push_old}
+use Rattle.link_list.proofs.Members.{other_in_rest, without_head, without_other, has_without_other, has_push_old}
 use Rattle.page_queues.specs.Tallies.{taken, moved}
-use Rattle.page_queues.specs.Pages.{Pages, AreKept, active, inactive, is_marked, placed, absented, free}
+use Rattle.page_queues.specs.Pages.{Pages, AreKept, active, inactive, free}
 
 pub length-without_le : (key : ℕ) (xs : List ℕ) → length (without key xs) ≤ length xs
 length-without_le key xs = omega (arith, length-filter_both (λ x. not (eqb key x)) (λ x. not (not (eqb key x))) (λ x. refl) xs)

@@ -1,13 +1,13 @@
 -- The lengths of lists of pages and the numbers of an object's pages in them, when a key is put in or taken out.
-use Rattle.std.proofs.Common.{◌≡◌, ℕ, Bool, true, false, ◌+◌, ◌-◌, ◌*◌, ◌/◌, ◌<◌, ◌≤◌, ◌⊎◌, inl, inr, List, [], ◌∷◌, ◌++◌, length, get_or, set, map, filter, cond, not, replicate, nat_eq, refl, sym, ap, ◌∙◌, arith, subst, Some, None}
+use Rattle.std.proofs.Common.{◌≡◌, ℕ, Bool, true, ◌+◌, ◌-◌, ◌*◌, ◌/◌, ◌<◌, ◌≤◌, inl, inr, List, [], ◌∷◌, ◌++◌, length, get_or, set, filter, cond, not, replicate, refl, sym, ap, ◌∙◌, arith, Some}
 use Rattle.std.proofs.lemmas.List.{length-append, length-set, length-map, length-replicate, get_or-map, get_or-replicate, get_or-set_same, get_or-set_other}
 use Rattle.std.proofs.lemmas.List.Elements.{filter-append}
 use Rattle.std.proofs.lemmas.List.Filters.{length-filter_both}
 use Rattle.std.proofs.lemmas.Bool.{cases_eq, cases_Bool, false≢true, false_from_ne_true, eq-eqb, ne_eqb}
 use Rattle.std.proofs.lemmas.Option.{same_Some}
 use Rattle.link_list.specs.KeyLists.{KeyLists, list_at, has, without, IsOnce, IsOnceEach, place_of}
-use Rattle.link_list.proofs.Members.{has_head, other_in_rest, without_absent, without_head, without_other}
-use Rattle.link_list.proofs.Places.{has_at_place, has_nowhere}
+use Rattle.link_list.proofs.Members.{other_in_rest, without_absent, without_head, without_other}
+use Rattle.link_list.proofs.Places.{has_at_place}
 use Rattle.link_list.proofs.Walks.{length_le_cap}
 use Rattle.page_queues.specs.Tallies.{is_of, count_of, taken, IsTallied}
 

@@ -1,9 +1,9 @@
 -- The places of the pages, the order in which the Active and the Inactive ones were placed, and their marks.
-use Rattle.std.specs.Prelude.{◌≡◌, ℕ, Bool, true, false, ◌+◌, ◌-◌, ◌*◌, ◌/◌, ◌%◌, ◌<◌, ◌≤◌, ◌&&◌, List, ◌++◌, [], ◌∷◌, length, map, set, filter, not, nat_eq, nat_lt, slice_index_or, Option, Some, None, if◌then◌else◌}
+use Rattle.std.specs.Prelude.{◌≡◌, ℕ, Bool, true, false, ◌+◌, ◌-◌, ◌*◌, ◌/◌, ◌%◌, ◌<◌, ◌≤◌, ◌&&◌, List, length, map, set, filter, not, nat_eq, nat_lt, slice_index_or, Option, Some, None, if◌then◌else◌}
 use Rattle.kern_ids.specs.declared.ids.PageId.{PageId}
 use Rattle.kernel_model.specs.declared.place.Place.{Place}
 use Rattle.kernel_model.specs.declared.place.Place.TheVariants.{Absent, Active, Inactive, Stored}
-use Rattle.link_list.specs.KeyLists.{KeyLists, list_at, has, place_of, IsOnceEach}
+use Rattle.link_list.specs.KeyLists.{list_at, has, place_of}
 use Rattle.page_queues.specs.Tallies.{taken, moved, is_of}
 
 -- `queues` has the keys of the Active, the Inactive and the Stored pages, those placed last at the tail;

@@ -3,7 +3,7 @@
 
 ghost use Rattle.std.specs.Prelude.{◌≡◌, ◌≤◌, ◌<◌, ◌⊎◌, ◌+◌, ◌*◌, ◌&&◌, ℕ, All, Bool, true, false, [], length, map, replicate, set, not, nat_lt, slice_get, slice_index_or, IsTrue, IfOk, OnSome, Some, option_map, if◌then◌else◌};
 ghost use Rattle.kern_ids.specs.declared.ids.PageId.{PageId};
-ghost use Rattle.link_list.specs.KeyLists.{has, list_at};
+ghost use Rattle.link_list.specs.KeyLists.{has, list_at, IsOnceEach};
 ghost use Rattle.page_queues.specs.Tallies.{count_of};
 ghost use Rattle.page_queues.specs.Pages.{IsPage, key_of, page_of, active, inactive, stored, place, is_out, is_inactive, free, is_marked, placed, absented, is_of_first, without_object};
 
@@ -216,6 +216,16 @@ impl PageQueues {
             self.make_absent(key_of(PageId { obj: o, page }));
         }
         inactive
+    }
+
+    /// What is true of all queues of pages, for a proof that needs it.
+    pub fn are_pages(&self)
+        ensures three { length self.now.queues ≡ 3 }
+        ensures once { IsOnceEach self.now.queues }
+        ensures frames { length (active self.now) + length (inactive self.now) ≤ self.now.frames }
+        ensures marked { (key : ℕ) → is_marked self.now key ≡ true → has key (inactive self.now) ≡ true }
+    {
+        self.queues.each_once();
     }
 
     /// The number of the pages of an object.

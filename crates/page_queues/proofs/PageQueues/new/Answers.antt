@@ -1,4 +1,4 @@
-use Rattle.std.proofs.Common.{◌≡◌, ℕ, ◌≤◌, ◌⊎◌, inl, inr, length, get_or, refl, arith}
+use Rattle.std.proofs.Common.{ℕ, ◌≤◌, inl, inr, length, get_or, refl, arith}
 use Rattle.std.proofs.lemmas.List.{get_or_past}
 use Rattle.std.proofs.lemmas.Bool.{cases_lt}
 use Rattle.page_queues.proofs.KeptLemmas.{kept_new}

@@ -1,5 +1,3 @@
-use Rattle.std.proofs.Common.{◌≡◌, subst, sym, ap}
-use Rattle.page_queues.specs.Tallies.{IsTallied}
 use Rattle.page_queues.proofs.TallyLemmas.{tallied_new}
 use Rattle.page_queues.proofs.tallied.Tallied.new.Goals as goal
 

@@ -1,8 +1,8 @@
-use Rattle.std.proofs.Common.{◌≡◌, ℕ, ◌+◌, ◌-◌, ◌*◌, ◌/◌, ◌<◌, ap, sym, ◌∙◌, arith, get_or, Some, None}
+use Rattle.std.proofs.Common.{◌+◌, ◌-◌, ◌*◌, ◌/◌, ◌<◌, ap, sym, ◌∙◌, arith}
 use Rattle.std.proofs.lemmas.List.{get_or_read}
 use Rattle.link_list.specs.KeyLists.{place_of}
 use Rattle.link_list.proofs.Places.{without_nowhere}
-use Rattle.page_queues.proofs.TallyLemmas.{length_positive, count_positive, tallied_take}
+use Rattle.page_queues.proofs.TallyLemmas.{count_positive, tallied_take}
 use Rattle.page_queues.proofs.tallied.Tallied.take.Goals as goal
 
 pub overflow_sub-index_mut-in-Some : goal.overflow_sub-index_mut-in-Some
