@@ -89,7 +89,7 @@ each_fits s v k = elim (split k (length s.scripts)) [
 -- each turn of a valid scenario fits
 pub turns-fit : (s : Plan) → IsValid s → All (λ t. IsTrue (fits s.boot t.0 t.1)) (turns s)
 turns-fit s v = of_turns (λ n c. IsTrue (fits s.boot n c)) s.order s.scripts (λ k. let z : k ≡ 0 + k = omega arith in
-  subst (λ (m : ℕ). All (λ c. IsTrue (fits s.boot m c)) (get_or s.scripts k [])) z (each_fits s v k))
+    subst (λ (m : ℕ). All (λ c. IsTrue (fits s.boot m c)) (get_or s.scripts k [])) z (each_fits s v k))
 
 pub run-turn : (boot : System) (past : List Entry) (turn : ℕ × Call) (rest : List (ℕ × Call)) → run_from boot past (turn ∷ rest) ≡ run_from boot (answered boot past turn ∷ past) rest
 unfolding run_from
