@@ -1,0 +1,102 @@
+//! What a call does to the body of the object that it needs.
+
+ghost use Rattle.std.specs.Prelude.{◌≡◌, false, length, map, [], ⊤, IfOk, OnOk, OnErr, None};
+ghost use Rattle.std.specs.List.{range_with_len};
+ghost use Rattle.kernel_model.specs.Answers.{bad_range};
+ghost use Rattle.page_store.specs.Contents.{byte_at, IsRangePrepared};
+ghost use Rattle.kernel_shared.specs.Ranges.{IsPreparedFor, IsSeenOf, IsWriteInRange};
+ghost use Rattle.kern_ids.specs.StateWord.{decoded};
+ghost use Rattle.std.specs.Option.{option_map_or};
+ghost use Rattle.kernel_model.specs.Contents.{is_ask_empty};
+ghost use Rattle.kernel_shared.specs.Touches.{bytes_left, wasnt_empty};
+
+use kern_ids::calls::{Call, State, Wish, decode_word};
+use kern_ids::entries::NoMemory;
+use kern_ids::lines::ByteLine;
+use kern_ids::replies::Reply;
+use kernel_core::range::bad_range;
+use kernel_model::boot::Boot;
+use page_store::Body;
+
+/// Prepares the body for the call: a Write in range can write it then without memory.
+pub fn prepare(boot: &Boot, call: &Call, body: &mut Body) -> Result<(), NoMemory>
+    ensures bytes { body.new.bytes ≡ body.old.bytes }
+    ensures prepared { OnOk result (IsPreparedFor boot.now call.now body.new) }
+{
+    match call {
+        Call::Write { obj, off, bytes } => {
+            let len = bytes.as_slice().len() as u32;
+            if bad_range(boot, *obj, *off, len) {
+                return Ok(());
+            }
+            body.prepare(*off, len)
+        }
+        _ => Ok(()),
+    }
+}
+
+fn no_bytes() -> ByteLine
+    ensures { result ≡ [] }
+{
+    match ByteLine::from_slice(&[]) {
+        Some(line) => line,
+        None => unreachable!(),
+    }
+}
+
+/// What a Read in range sees in the body, and no bytes for any other call.
+pub fn look(boot: &Boot, call: &Call, body: &Body) -> ByteLine
+    ensures { IsSeenOf boot.now call.now body.now.bytes result }
+{
+    match call {
+        Call::Read { obj, off, len } => {
+            if bad_range(boot, *obj, *off, *len) {
+                return no_bytes();
+            }
+            body.read(*off, *len)
+        }
+        _ => no_bytes(),
+    }
+}
+
+/// Changes the body as the call does that got this reply. Takes no memory.
+pub fn apply(boot: &Boot, call: &Call, reply: &Reply, body: &mut Body)
+    requires prepared { IsPreparedFor boot.now call.now body.old }
+    requires range { IsWriteInRange boot.now call.now reply.now }
+    ensures { body.new.bytes ≡ bytes_left call.now reply.now body.old.bytes }
+{
+    match call {
+        Call::Map { .. } => {
+            if !matches!(reply, Reply::Refused(_)) {
+                body.clear();
+            }
+        }
+        Call::Write { off, bytes, .. } => {
+            if !matches!(reply, Reply::Refused(_)) {
+                body.write(*off, bytes.as_slice());
+            }
+        }
+        Call::SetState { word, .. } => {
+            if asks_empty(*word) && wasnt_empty(reply) {
+                body.clear();
+            }
+        }
+        _ => {
+            if let Reply::Purged(_) = reply {
+                body.clear();
+            }
+        }
+    }
+}
+
+fn asks_empty(word: u32) -> bool
+    ensures { result ≡ option_map_or is_ask_empty (decoded word) false }
+{
+    matches!(decode_word(word), Some(Wish::Empty))
+}
+
+fn wasnt_empty(reply: &Reply) -> bool
+    ensures { result ≡ wasnt_empty reply.now }
+{
+    matches!(reply, Reply::Old(State::Nonvolatile | State::Volatile))
+}

@@ -1,0 +1,9 @@
+//! The kernel shared by threads. A call takes effect in one moment, when it gives the turn up: its entry is
+//! then the last of the history. The bytes of an object are read and written under the word of the object,
+//! outside the turn.
+#![tactic(auto)]
+
+mod effect;
+pub mod gate;
+pub mod shared;
+pub mod value;
