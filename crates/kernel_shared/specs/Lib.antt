@@ -1,5 +1,6 @@
 pub mod Bodies
-pub mod Calls
-pub mod Ranges
 pub mod Touches
 pub mod Untouched
+pub mod Ranges
+pub mod Calls
+pub mod Steps

@@ -1,5 +1,5 @@
 -- What a body has to do with the range of a call.
-use Rattle.std.specs.Prelude.{◌≡◌, ℕ, List, [], length, map, true, false}
+use Rattle.std.specs.Prelude.{◌≡◌, ◌+◌, ◌≤◌, ℕ, List, [], length, map, true, false}
 use Rattle.std.specs.List.{range_with_len}
 use Rattle.kern_ids.specs.declared.calls.Call.{Call}
 use Rattle.kern_ids.specs.declared.calls.Call.TheVariants.{Write, Read}
@@ -21,5 +21,5 @@ IsWriteInRange boot _ reply = Unit {0}
 
 -- a Read in range sees the bytes of its range
 abbrev pub IsSeenOf : System → Call → List (ℕ × ℕ) → List ℕ → Type 0
-IsSeenOf boot (Read o off len) body seen = bad_range boot o off len ≡ false → seen ≡ map (byte_at body) (range_with_len off len)
+IsSeenOf boot (Read o off len) body seen = bad_range boot o off len ≡ false → (off + len ≤ 1048576) × (seen ≡ map (byte_at body) (range_with_len off len))
 IsSeenOf boot _ body seen = Unit {0}

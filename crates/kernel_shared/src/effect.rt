@@ -1,6 +1,6 @@
 //! What a call does to the body of the object that it needs.
 
-ghost use Rattle.std.specs.Prelude.{◌≡◌, false, length, map, [], ⊤, IfOk, OnOk, OnErr, None};
+ghost use Rattle.std.specs.Prelude.{◌≡◌, false, length, map, [], IsTrue, reverse, IfOk, OnOk, None};
 ghost use Rattle.std.specs.List.{range_with_len};
 ghost use Rattle.kernel_model.specs.Answers.{bad_range};
 ghost use Rattle.page_store.specs.Contents.{byte_at, IsRangePrepared};
@@ -8,15 +8,45 @@ ghost use Rattle.kernel_shared.specs.Ranges.{IsPreparedFor, IsSeenOf, IsWriteInR
 ghost use Rattle.kern_ids.specs.StateWord.{decoded};
 ghost use Rattle.std.specs.Option.{option_map_or};
 ghost use Rattle.kernel_model.specs.Contents.{is_ask_empty};
-ghost use Rattle.kernel_shared.specs.Touches.{bytes_left, wasnt_empty};
+ghost use Rattle.kernel_shared.specs.Touches.{bytes_left, wasnt_empty, named_number, needed_number, IsDeclared};
+ghost use Rattle.kernel_model.specs.Histories.{fits};
 
 use kern_ids::calls::{Call, State, Wish, decode_word};
 use kern_ids::entries::NoMemory;
+use kern_ids::ids::ThreadId;
 use kern_ids::lines::ByteLine;
 use kern_ids::replies::Reply;
+use kernel_core::kernel::Kernel;
+use kernel_core::need::{Need, named};
 use kernel_core::range::bad_range;
 use kernel_model::boot::Boot;
 use page_store::Body;
+
+/// The object whose bytes the call names.
+pub fn named_number(call: &Call) -> Option<u32>
+    ensures { result ≡ named_number call.now }
+{
+    match named(call) {
+        Need::Bytes(o) => Some(o.get()),
+        Need::Nothing => None,
+    }
+}
+
+/// The object whose bytes the call needs now. It is a declared one.
+pub fn needed_number(
+    kernel: &Kernel,
+    who: ThreadId,
+    call: &Call,
+) -> Result<Option<u32>, NoMemory>
+    requires { IsTrue (fits kernel.now.boot who call.now) }
+    ensures needed { IfOk result (λ n. n ≡ needed_number kernel.now.boot (reverse kernel.now.history) who call.now) }
+    ensures declared { IfOk result (λ n. IsDeclared kernel.now.boot n) }
+{
+    match kernel.need(who, call)? {
+        Need::Bytes(o) => Ok(Some(o.get())),
+        Need::Nothing => Ok(None),
+    }
+}
 
 /// Prepares the body for the call: a Write in range can write it then without memory.
 pub fn prepare(boot: &Boot, call: &Call, body: &mut Body) -> Result<(), NoMemory>
@@ -35,7 +65,8 @@ pub fn prepare(boot: &Boot, call: &Call, body: &mut Body) -> Result<(), NoMemory
     }
 }
 
-fn no_bytes() -> ByteLine
+/// No bytes.
+pub fn no_bytes() -> ByteLine
     ensures { result ≡ [] }
 {
     match ByteLine::from_slice(&[]) {

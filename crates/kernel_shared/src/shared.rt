@@ -1,34 +1,33 @@
 //! The kernel and its calls under the lock.
 
-ghost use Rattle.std.specs.Prelude.{◌≡◌, ◌<◌, ◌≤◌, ◌++◌, ◌∷◌, [], true, false, reverse, length, IsTrue, IfOk, OnOk, OnErr, MatchOption, Some, None};
-ghost use Rattle.std.specs.List.{AllByRecursion};
+ghost use Rattle.std.specs.Prelude.{◌≡◌, ℕ, ◌+◌, ◌<◌, ◌≤◌, eqb, ◌++◌, ◌∷◌, [], true, false, reverse, length, IsTrue, IfOk, OnOk, OnErr, MatchOption, Some, None};
+ghost use Rattle.std.specs.List.{AllByRecursion, IsDistinct};
+ghost use Rattle.kernel_model.specs.Pages.{free};
 ghost use Rattle.kernel_model.specs.Histories.{fits, Legal};
+ghost use Rattle.kernel_model.specs.Valid.{IsValidBoot};
 ghost use Rattle.kernel_core.specs.Kernels.{SeesBytes};
-ghost use Rattle.kernel_core.specs.Need.{named as object_named, need};
-ghost use Rattle.kernel_core.specs.declared.need.Need.TheVariants.{Bytes};
-ghost use Rattle.turn_lock.specs.Histories.{StartsWith};
-ghost use Rattle.turn_lock.specs.Passes.{IsPassOf, HoldsNothing, IsNewPassOf};
+ghost use Rattle.turn_lock.specs.Histories.{StartsWith, longer, entries_of, list_in};
+ghost use Rattle.turn_lock.specs.Passes.{IsPassOf, HoldsNothing, IsNewPassOf, gathered_by, numbers_of, weight_of};
 ghost use Rattle.page_store.specs.Contents.{nothing};
 ghost use Rattle.kernel_shared.specs.Calls.{IsIdleOf, IsSamePass, HasMade, pass_count};
 ghost use Rattle.kernel_shared.specs.Steps.{IsEntryMade, MayTouch, IsTried, IsLooked};
-ghost use Rattle.kernel_shared.specs.Touches.{NeedsAtMost};
+ghost use Rattle.kernel_shared.specs.Touches.{NeedsAtMost, named_number, needed_number};
 
-use crate::effect::{apply, look, no_bytes, prepare};
+use crate::effect::{apply, look, named_number, needed_number, no_bytes, prepare};
 use crate::gate::{Gate, Point};
 use crate::value::Core;
 use kern_ids::calls::Call;
-use kern_ids::entries::NoMemory;
-use kern_ids::ids::{ObjId, ThreadId};
+use kern_ids::entries::{EntryList, NoMemory};
+use kern_ids::ids::ThreadId;
 use kern_ids::lines::ByteLine;
 use kern_ids::replies::Reply;
 use kernel_core::kernel::Kernel;
-use kernel_core::need::{Need, named};
 use kernel_model::boot::Boot;
 use page_store::Body;
 use std::alloc::Global;
 use std::marker::Model;
 use std::sync::Wait;
-use turn_lock::{Held, Turn, TwoLevel};
+use turn_lock::{Turn, TwoLevel};
 
 /// What one thread knows of the kernel, and holds of it.
 pub type Pass = turn_lock::Pass<Core, Body>;
@@ -60,7 +59,7 @@ impl Model for SharedKernel {
 // What a call without an object came to: the entry was made, or the call needs this object.
 enum Look {
     Made(Reply),
-    Needs(ObjId),
+    Needs(u32),
 }
 
 // A body for each object, with nothing in it.
@@ -69,7 +68,7 @@ fn empty_bodies(alloc: Global, objects: usize) -> Result<Vec<Body>, NoMemory>
     ensures empty { IfOk result (λ v. AllByRecursion (λ body. body ≡ nothing) v.items) }
 {
     let mut bodies = Vec::new(alloc);
-    for _ in 0..objects {
+    for _i in 0..objects {
         bodies.push(Body::new(alloc)?).map_err(|_| NoMemory)?;
     }
     Ok(bodies)
@@ -85,13 +84,13 @@ fn passes_for(boot: &Boot) -> u32
     if threads == 0 { 1 } else { threads as u32 }
 }
 
-fn thread_of(pass: &Pass) -> ThreadId
-    requires { pass.now.number < 32 }
-    ensures { result ≡ pass.now.number }
+// An object is needed, and it is not o.
+fn needs_other(needed: Option<u32>, o: u32) -> bool
+    ensures { result ≡ false → NeedsAtMost o needed }
 {
-    match ThreadId::new(pass.number()) {
-        Some(who) => who,
-        None => unreachable!(),
+    match needed {
+        Some(x) => x != o,
+        None => false,
     }
 }
 
@@ -112,6 +111,25 @@ impl SharedKernel {
         Ok((SharedKernel { boot, table }, list))
     }
 
+    // What it began with is in its ranges.
+    fn valid(&self)
+        ensures { IsValidBoot self.now.base }
+    {
+        self.boot.valid();
+    }
+
+    // The thread whose pass it is.
+    fn thread_of(&self, pass: &Pass, call: &Call) -> ThreadId
+        requires { IsTrue (fits self.now.base pass.now.number call.now) }
+        ensures { result ≡ pass.now.number }
+    {
+        self.valid();
+        match ThreadId::new(pass.number()) {
+            Some(who) => who,
+            None => unreachable!(),
+        }
+    }
+
     // Makes the entry of the call in the turn, and gives the turn up.
     fn make<G: Gate>(
         &self,
@@ -126,12 +144,12 @@ impl SharedKernel {
         requires value { (turn.kernel.boot ≡ self.now.base) × (turn.kernel.history ≡ pass.old.seen) }
         requires fits { IsTrue (fits self.now.base pass.old.number call.now) }
         requires seen { SeesBytes self.now.base pass.old.seen call.now seen }
-        requires touches { MayTouch (need self.now.base (reverse pass.old.seen) pass.old.number call.now) pass.old.object }
+        requires touches { MayTouch (needed_number self.now.base (reverse pass.old.seen) pass.old.number call.now) pass.old.object }
         ensures made { IfOk result (IsEntryMade self.now.base pass.old pass.new call.now) }
         ensures none { OnErr result (pass.new ≡ record pass.old { turn = false }) }
     {
         let mut turn = turn;
-        let who = thread_of(pass);
+        let who = self.thread_of(pass, call);
         if turn.value().kernel.reserve(1).is_err() {
             self.table.leave(pass, turn);
             return Err(NoMemory);
@@ -164,15 +182,15 @@ impl SharedKernel {
         ensures looked { IfOk result (IsLooked self.now pass.old pass.new call.now) }
         ensures none { OnErr result (pass.new.mine ≡ pass.old.mine) }
     {
-        let who = thread_of(pass);
+        let who = self.thread_of(pass, call);
         gate.at(who, Point::BeforeTurn);
         let mut turn = self.table.enter(rt, pass);
-        match turn.value().kernel.need(who, call) {
-            Ok(Need::Nothing) => {
+        match needed_number(&turn.value().kernel, who, call) {
+            Ok(None) => {
                 let reply = self.make(gate, pass, turn, call, no_bytes())?;
                 Ok(Look::Made(reply))
             }
-            Ok(Need::Bytes(o)) => {
+            Ok(Some(o)) => {
                 self.table.leave(pass, turn);
                 Ok(Look::Needs(o))
             }
@@ -190,39 +208,120 @@ impl SharedKernel {
         gate: &G,
         pass: &mut Pass,
         call: &Call,
-        o: ObjId,
+        o: u32,
     ) -> Result<Option<Reply>, NoMemory>
         requires idle { IsIdleOf self.now pass.old }
         requires fits { IsTrue (fits self.now.base pass.old.number call.now) }
         requires object { o < length self.now.base.objects }
-        requires named { NeedsAtMost o (object_named call.now) }
+        requires named { NeedsAtMost o (named_number call.now) }
         ensures kept { IsSamePass self.now pass.old pass.new }
         ensures tried { IfOk result (λ made. IsTried self.now pass.old pass.new call.now made) }
         ensures none { OnErr result (pass.new.mine ≡ pass.old.mine) }
     {
-        let who = thread_of(pass);
-        let mut held = self.table.take_object(rt, pass, o.get());
+        let who = self.thread_of(pass, call);
+        let mut held = self.table.take_object(rt, pass, o);
         gate.at(who, Point::ObjectTaken);
         if prepare(&self.boot, call, held.body()).is_err() {
-            self.table.put_object(pass, o.get(), held);
+            self.table.put_object(pass, o, held);
             return Err(NoMemory);
         }
         let seen = look(&self.boot, call, held.body());
         gate.at(who, Point::BeforeTurn);
         let mut turn = self.table.enter(rt, pass);
-        let need = turn.value().kernel.need(who, call);
-        match need {
-            Ok(Need::Bytes(x)) if x.get() != o.get() => {
-                self.table.leave(pass, turn);
-                self.table.put_object(pass, o.get(), held);
-                Ok(None)
+        match needed_number(&turn.value().kernel, who, call) {
+            Ok(needed) => {
+                if needs_other(needed, o) {
+                    self.table.leave(pass, turn);
+                    self.table.put_object(pass, o, held);
+                    return Ok(None);
+                }
+                match self.make(gate, pass, turn, call, seen) {
+                    Ok(reply) => {
+                        apply(&self.boot, call, &reply, held.body());
+                        self.table.put_object(pass, o, held);
+                        Ok(Some(reply))
+                    }
+                    Err(NoMemory) => {
+                        self.table.put_object(pass, o, held);
+                        Err(NoMemory)
+                    }
+                }
             }
-            Ok(_) => self.finish(gate, pass, turn, held, call, o, seen),
             Err(NoMemory) => {
                 self.table.leave(pass, turn);
-                self.table.put_object(pass, o.get(), held);
+                self.table.put_object(pass, o, held);
                 Err(NoMemory)
             }
         }
+    }
+
+    /// Makes a call. Its entry is the last of the history at the moment when it gives the turn up. Waits for
+    /// the turn, and for the word of the object whose bytes it needs. Without memory no entry is made.
+    pub fn call<R: Wait, G: Gate>(
+        &self,
+        rt: &R,
+        gate: &G,
+        pass: &mut Pass,
+        call: Call,
+    ) -> Result<Reply, NoMemory>
+        requires idle { IsIdleOf self.now pass.old }
+        requires fits { IsTrue (fits self.now.base pass.old.number call) }
+        ensures kept { IsSamePass self.now pass.old pass.new }
+        ensures made { IfOk result (HasMade self.now pass.old pass.new call) }
+        ensures none { OnErr result (pass.new.mine ≡ pass.old.mine) }
+    {
+        let mut wanted = named_number(&call);
+        for _ in rt.forever() {
+            match wanted {
+                Some(o) => match self.attempt(rt, gate, pass, &call, o)? {
+                    Some(reply) => return Ok(reply),
+                    None => wanted = None,
+                },
+                None => match self.first_look(rt, gate, pass, &call)? {
+                    Look::Made(reply) => return Ok(reply),
+                    Look::Needs(o) => wanted = Some(o),
+                },
+            }
+        }
+        unreachable!()
+    }
+
+    /// How many frames are free after a history that the pass has then seen. It neither waits nor takes memory.
+    pub fn pressure(&self, pass: &mut Pass) -> u64
+        requires { IsPassOf self.now pass.old }
+        ensures free { result ≡ free self.now.base (reverse pass.new.seen) }
+        ensures seen { StartsWith pass.new.seen pass.old.seen }
+        ensures same { pass.new ≡ record pass.old { seen = pass.new.seen } }
+    {
+        self.table.look(pass)
+    }
+
+    /// `into` takes in what the other pass knows. Neither holds anything.
+    pub fn join(&self, into: &mut Pass, other: Pass)
+        requires into { IsIdleOf self.now into.old }
+        requires other { IsIdleOf self.now other }
+        ensures seen { into.new.seen ≡ longer into.old.seen other.seen }
+        ensures both { StartsWith into.new.seen into.old.seen × StartsWith into.new.seen other.seen }
+        ensures others { into.new.others ≡ into.old.others ++ gathered_by other }
+        ensures weight { weight_of into.new ≡ weight_of into.old + weight_of other }
+        ensures distinct { IsDistinct eqb (numbers_of into.new) }
+        ensures same { into.new ≡ record into.old { seen = into.new.seen; others = into.new.others } }
+    {
+        self.table.join_pass(into, other);
+    }
+
+    /// The history, once all other passes have been joined into this one. Takes no memory.
+    pub fn close(self, pass: Pass) -> EntryList
+        requires idle { IsIdleOf self pass }
+        requires whole { weight_of pass ≡ self.passes }
+        ensures legal { Legal self.base result.list }
+        ensures seen { StartsWith result.list pass.seen }
+        ensures numbers { AllByRecursion (λ e. e.who < self.passes) result.list }
+        ensures lists { (n : ℕ) → n < self.passes → entries_of (λ e. e.who) n result.list ≡ list_in n (gathered_by pass) }
+    {
+        let SharedKernel { boot: _, table } = self;
+        let Core { kernel } = table.close(pass);
+        kernel.legal();
+        kernel.into_history()
     }
 }
