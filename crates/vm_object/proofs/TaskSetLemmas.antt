@@ -1,7 +1,7 @@
 -- Sets of tasks as bits.
-use Rattle.std.proofs.Common.{◌≡◌, ◌≢◌, ℕ, zero, suc, ◌+◌, ◌*◌, ◌%◌, ◌^◌, ◌<◌, ◌≤◌, Bool, true, false, length, set, Option, Some, None, find, refl, sym, ap, ◌∙◌, inl, inr, arith, zero-add}
+use Rattle.std.proofs.Common.{◌≡◌, ◌≢◌, ℕ, zero, suc, ◌+◌, ◌*◌, ◌%◌, ◌^◌, ◌<◌, ◌≤◌, Bool, true, false, ◌||◌, cond, List, [], ◌∷◌, length, set, Option, Some, None, is_some, find, refl, sym, ap, ◌∙◌, inl, inr, arith, zero-add}
 use Rattle.std.proofs.Math.Dec.{eqb}
-use Rattle.std.specs.List.{range_with_len}
+use Rattle.std.specs.List.{range_with_len, list_any}
 use Rattle.std.specs.Int.{bit_at, w64, bit_not, trailing_zeros}
 use Rattle.std.specs.Int.RustNames.{bit_or}
 use Rattle.std.specs.Option.{SomeIff}
@@ -11,7 +11,7 @@ use Rattle.std.proofs.lemmas.List.{get_or-set_other, get_or-replicate, length-se
 use Rattle.std.proofs.lemmas.Grind.{get_or-set_at}
 use Rattle.std.proofs.lemmas.List.FromFn.{length-map-range_with_len, get_or-map-range_with_len, fill_by_all}
 use Rattle.std.proofs.lemmas.Nat.Bits.{bit_at-zero, bit_at-trailing_zeros, bit_at_set_same, bit_at_set_other, bit_at_clear_same, bit_at_clear_other}
-use Rattle.vm_object.specs.TaskSets.{has_task, no_task, tasks_in, least_of}
+use Rattle.vm_object.specs.TaskSets.{has_task, no_task, tasks_in, least_of, any_of, all_tasks}
 
 abbrev is_one : ℕ → ℕ → Bool
 is_one bits t = eqb (bit_at bits t) 1
@@ -73,3 +73,12 @@ least_of-lowest bits some fits =
 pub SomeIff-holds : {P : Type 0} (result : Option ℕ) (value : ℕ) → SomeIff result P value → P → result ≡ Some value
 SomeIff-holds None value iff holds = absurd (iff holds)
 SomeIff-holds (Some x) value iff holds = ap (λ y. Some y) iff.1
+
+is_some-find : (p : ℕ → Bool) (xs : List ℕ) → is_some (find p xs) ≡ list_any p xs
+is_some-find p [] = refl
+is_some-find p (x ∷ xs) = elim (p x) as (λ b. is_some (cond b (Some x) (find p xs)) ≡ (b || list_any p xs)) [ true ↦ refl | false ↦ is_some-find p xs ]
+
+-- there is a least task where there is one
+pub is_some-least_of : (tasks : List Bool) → is_some (least_of tasks) ≡ any_of tasks
+unfolding least_of any_of
+is_some-least_of tasks = is_some-find (has_task tasks) all_tasks

@@ -1,5 +1,5 @@
 -- The objects: which tasks share and map each, its size, its state, and which of its pages are written.
-use Rattle.std.specs.Prelude.{◌≡◌, ℕ, Bool, true, false, not, List, length, set, replicate, slice_index_or, is_some, Option, Some, None, if◌then◌else◌}
+use Rattle.std.specs.Prelude.{◌≡◌, ℕ, Bool, true, false, not, List, length, set, replicate, slice_index_or, Option, Some, None, if◌then◌else◌}
 use Rattle.std.specs.Option.{option_map_or}
 use Rattle.kern_ids.specs.declared.calls.Queue.{Queue}
 use Rattle.kern_ids.specs.declared.calls.State.{State}
@@ -10,7 +10,7 @@ use Rattle.kernel_model.specs.declared.boot.ObjBoot.{ObjBoot}
 use Rattle.kernel_model.specs.State.{state_asked}
 use Rattle.kernel_model.specs.Groups.{same_queue}
 use Rattle.vm_object.specs.declared.answer.SetAnswer.{SetAnswer}
-use Rattle.vm_object.specs.TaskSets.{has_task, no_task, tasks_of, least_of}
+use Rattle.vm_object.specs.TaskSets.{has_task, no_task, tasks_of, least_of, any_of}
 
 -- `tasks` are those that share the object and `mapping` those that map it, each as a set of tasks; `written` says
 -- for each of 256 pages whether it is written
@@ -49,7 +49,7 @@ owner objects o = least_of (object_at objects o).mapping
 
 -- whether some task maps the object
 abbrev pub is_mapped : List Object → ℕ → Bool
-is_mapped objects o = is_some (owner objects o)
+is_mapped objects o = any_of (object_at objects o).mapping
 
 -- whether a page is written
 abbrev pub is_written : List Object → ℕ → ℕ → Bool
