@@ -1,13 +1,11 @@
 -- The bytes and the prepared places that pages have.
-use Rattle.std.proofs.Common.{◌≡◌, ◌⊎◌, ℕ, ◌+◌, ◌-◌, ◌*◌, ◌/◌, ◌%◌, ◌<◌, ◌≤◌, Bool, true, false, ◌||◌, List, ◌++◌, length, map, set, take, drop, replicate, get_or, Option, Some, None, is_some, unwrap_or, option_map, refl, sym, ap, ap₂, ◌∙◌, inl, inr, arith}
+use Rattle.std.proofs.Common.{◌≡◌, ℕ, ◌+◌, ◌-◌, ◌*◌, ◌/◌, ◌%◌, ◌<◌, ◌≤◌, Bool, true, false, List, ◌++◌, length, map, set, take, drop, replicate, get_or, Option, Some, None, is_some, unwrap_or, option_map, refl, sym, ap, ap₂, ◌∙◌, inl, inr, arith}
 use Rattle.std.proofs.Math.ListN.{get_or-map}
-use Rattle.std.proofs.Math.Bool.{or-false}
 use Rattle.std.proofs.Math.Seq.{map-set_same}
-use Rattle.std.proofs.lemmas.Bool.{cases_eq, cases_lt, and_from, and_left, and_right, or_right, lt-ltb, le-leb, lt-leb}
-use Rattle.std.proofs.lemmas.List.{get_or_append_left, get_or-append_right, get_or-take, get_or-drop, length-take-le, get_or_past, get_or-set_other, get_or-set_same, get_or-replicate, length-set, set-get_or, map-set}
-use Rattle.std.proofs.lemmas.Grind.{get_or-set_at}
+use Rattle.std.proofs.lemmas.Bool.{cases_eq, cases_lt}
+use Rattle.std.proofs.lemmas.List.{get_or_append_left, get_or-append_right, get_or-take, get_or-drop, length-take-le, get_or_past, get_or-set_other, get_or-set_same, get_or-replicate, set-get_or, map-set}
 use Rattle.std.specs.Option.{option_map_or}
-use Rattle.page_store.specs.Contents.{Contents, bytes_of, written_at, overwritten, IsRangePrepared, shares_page, nothing}
+use Rattle.page_store.specs.Contents.{Contents, bytes_of, written_at, overwritten, IsRangePrepared, nothing}
 use Rattle.page_store.specs.Tables.{page_at, byte_in, page_with, ArePages}
 use Rattle.page_store.proofs.ContentsLemmas.{written_at-before, written_at-past, written_at-inside, bytes_of-alike, byte_at-bytes_of, bytes_of-zero, overwritten-append}
 
@@ -105,44 +103,6 @@ nothing_there =
       | inr past ↦ ap (λ o. option_map_or (λ (bytes : List ℕ). get_or bytes (place % 4096) 0) o 0) (get_or_past (replicate 256 None) (place / 4096) None past)
     ] in
     ap (λ (bytes : List (ℕ × ℕ)). record { bytes = bytes; prepared = replicate 256 false }) (bytes_of-alike (byte_in (replicate 256 None)) (λ _. 0) (λ place inside. none place) ∙ bytes_of-zero)
-
-shares_page-yes : (off len place : ℕ) → 0 < len → off / 4096 ≤ place / 4096 → place / 4096 ≤ (off + len - 1) / 4096 → shares_page off len place ≡ true
-shares_page-yes off len place some from upto = and_from _ _ (and_from _ _ (lt-ltb 0 len some) (le-leb (off / 4096) (place / 4096) from)) (le-leb (place / 4096) ((off + len - 1) / 4096) upto)
-
-shares_page-no : (off len place : ℕ) → (place / 4096 < off / 4096) ⊎ ((off + len - 1) / 4096 < place / 4096) → shares_page off len place ≡ false
-shares_page-no off len place (inl before) = and_left _ _ (and_right _ _ (lt-leb (off / 4096) (place / 4096) before))
-shares_page-no off len place (inr past) = and_right _ _ (lt-leb (place / 4096) ((off + len - 1) / 4096) past)
-
--- the first and the last page of a range of few places are all that it has
-pub prepared_range : (prepared : List Bool) (off len place : ℕ) → length prepared ≡ 256 → 0 < len → len ≤ 256 → off + len ≤ 1048576 → get_or (set (set prepared (off / 4096) true) ((off + len - 1) / 4096) true) (place / 4096) false ≡ (get_or prepared (place / 4096) false || shares_page off len place)
-prepared_range prepared off len place count some few inside =
-    let first = off / 4096 in
-    let last = (off + len - 1) / 4096 in
-    let page = place / 4096 in
-    let once = set prepared first true in
-    let long = length-set prepared first true in
-    let order : first ≤ last = omega arith in
-    let near : last ≤ first + 1 = omega arith in
-    let bound : last < 256 = omega arith in
-    let was = get_or prepared page false in
-    elim (cases_eq page last) [
-      | inl same ↦ get_or-set_at once last page true false same (omega arith) ∙ sym (or_right was _ (shares_page-yes off len place some (omega arith) (omega arith)))
-      | inr not_last ↦ get_or-set_other once last page true false not_last ∙ elim (cases_eq page first) [
-        | inl same ↦ get_or-set_at prepared first page true false same (omega arith) ∙ sym (or_right was _ (shares_page-yes off len place some (omega arith) (omega arith)))
-        | inr not_first ↦
-            let outside : (page < first) ⊎ (last < page) = elim (cases_lt page first) [ inl before ↦ inl before | inr from ↦ inr (omega arith) ] in
-            get_or-set_other prepared first page true false not_first ∙ sym (or-false was) ∙ ap (λ b. was || b) (sym (shares_page-no off len place outside))
-      ]
-    ]
-
--- a range of places that are prepared is one of the object's
-pub range_inside : (contents : Contents) (off len : ℕ) → length contents.prepared ≡ 256 → 0 < len → IsRangePrepared contents off len → off + len ≤ 1048576
-range_inside contents off len count some range =
-    let last = off + len - 1 in
-    elim (cases_lt (last / 4096) 256) [
-      | inl below ↦ omega arith
-      | inr past ↦ absurd (let yes = range.each last (omega arith) (omega arith) in let no = get_or_past contents.prepared (last / 4096) false (omega arith) in cc)
-    ]
 
 -- a range of prepared places lies on pages that are prepared already
 pub set_there : (prepared : List Bool) (n : ℕ) → get_or prepared n false ≡ true → prepared ≡ set prepared n true

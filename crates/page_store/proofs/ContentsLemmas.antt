@@ -109,11 +109,3 @@ overwritten-append old off xs ys =
     bytes_of-alike _ _ (λ place inside.
     ap (unwrap_or (written_at (off + length xs) ys place)) (byte_at-bytes_of (λ p. unwrap_or (written_at off xs p) (byte_at old p)) place inside)
     ∙ overwritten_twice-at off xs ys place (byte_at old place))
-
--- nothing is written
-pub overwritten-nil : (old : List (ℕ × ℕ)) (off : ℕ) → overwritten old off [] ≡ bytes_of (byte_at old)
-overwritten-nil old off =
-    bytes_of-alike _ _ (λ place inside. elim (cases_lt place off) [
-      | inl before ↦ ap (λ o. unwrap_or o (byte_at old place)) (written_at-before off [] place before)
-      | inr from ↦ ap (λ o. unwrap_or o (byte_at old place)) (written_at-past off [] place (omega arith))
-    ])
