@@ -30,7 +30,7 @@ use Rattle.line_text.proofs.CallLaws.{verb_again, call_again}
 use Rattle.scenario_text.specs.declared.place.Place.TheVariants as place
 use Rattle.scenario_text.specs.Grammar as grammar
 use Rattle.scenario_text.specs.Text as text
-use Rattle.scenario_law.proofs.Spelled.{word_takes, version, is_first, IsSide}
+use Rattle.scenario_text.proofs.Spelled.{word_takes, version, is_first, IsSide}
 
 -- ---- the first two lines
 

@@ -35,7 +35,7 @@ use Rattle.scenario_text.specs.declared.place.Place.TheVariants as place
 use Rattle.scenario_text.specs.Grammar as grammar
 use Rattle.scenario_text.specs.Text as text
 use Rattle.scenario_text.proofs.OrderLemmas.{turn-takes}
-use Rattle.scenario_law.proofs.Runs.{not-ok}
+use Rattle.scenario_text.proofs.Runs.{not-ok}
 
 -- ---- a word that is read, and what goes on behind it
 

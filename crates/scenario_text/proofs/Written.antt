@@ -28,10 +28,10 @@ use Rattle.scenario_text.specs.Grammar as grammar
 use Rattle.scenario_text.specs.Grammar.{Front, start, headed, reading, step, line_at, later_line, declaring_line}
 use Rattle.scenario_text.specs.Text as text
 use Rattle.scenario_text.specs.Text.{HasText}
-use Rattle.scenario_law.proofs.Runs.{run, run-then, run-first}
-use Rattle.scenario_law.proofs.Spelled.{is_first}
-use Rattle.scenario_law.proofs.Grown.{side-at}
-use Rattle.scenario_law.proofs.Again.{system_again, task_again, object_again, thread_again, order_again, script_again, no-verb}
+use Rattle.scenario_text.proofs.Runs.{run, run-then, run-first}
+use Rattle.scenario_text.proofs.Spelled.{is_first}
+use Rattle.scenario_text.proofs.Grown.{side-at}
+use Rattle.scenario_text.proofs.Again.{system_again, task_again, object_again, thread_again, order_again, script_again, no-verb}
 
 -- ---- the tasks
 

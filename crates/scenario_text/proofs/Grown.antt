@@ -21,7 +21,7 @@ use Rattle.line_text.specs.Calls.{HasLine}
 use Rattle.scenario_text.specs.Grammar.{opened, with_task, with_object, with_thread, with_call, last_thread}
 use Rattle.scenario_text.specs.Text.{HasText}
 use Rattle.scenario_text.proofs.FitLemmas.{slice_get-within, side-of, names-of}
-use Rattle.scenario_law.proofs.Spelled.{IsSide}
+use Rattle.scenario_text.proofs.Spelled.{IsSide}
 
 -- a call is of a thread's side, in the words of the kernel's rules and in those of its line
 pub side-at : (s : Plan) (who : ℕ) (call : Call) → who < length s.boot.sides → same (is_task_call call) (is_some (task_of s.boot who)) ≡ same (is_task_verb (verb_of_call call)) (is_some (task_of_side (get_or s.boot.sides who Kernel)))

@@ -24,9 +24,9 @@ use Rattle.scenario_text.specs.Grammar as grammar
 use Rattle.scenario_text.specs.Grammar.{Front, start, headed, reading, step, line_at, later_line, declaring_line}
 use Rattle.scenario_text.specs.Text as text
 use Rattle.scenario_text.specs.Text.{HasText}
-use Rattle.scenario_law.proofs.Runs.{run}
-use Rattle.scenario_law.proofs.Spelled.{word_takes, version, is_first, head_takes, system_takes, task_takes, chosen, object_takes, thread_takes, order_takes, script_takes}
-use Rattle.scenario_law.proofs.Grown.{opened-holds, task-holds, object-holds, thread-holds, order-holds, call-holds}
+use Rattle.scenario_text.proofs.Runs.{run}
+use Rattle.scenario_text.proofs.Spelled.{word_takes, version, is_first, head_takes, system_takes, task_takes, chosen, object_takes, thread_takes, order_takes, script_takes}
+use Rattle.scenario_text.proofs.Grown.{opened-holds, task-holds, object-holds, thread-holds, order-holds, call-holds}
 
 -- the lines of what is declared, those of the end, and all that a front has been told
 abbrev declared : Plan → List (List Word)
