@@ -10,4 +10,5 @@ pub mod Told
 pub mod Again
 pub mod Written
 pub mod Clean
-pub mod Law
+pub mod RoundTrip
+pub mod TypeLaws

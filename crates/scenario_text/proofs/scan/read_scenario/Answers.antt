@@ -1,4 +1,4 @@
-use Rattle.scenario_text.proofs.Law.{read-written, read-valid, read-again}
+use Rattle.scenario_text.proofs.RoundTrip.{read-written, read-valid, read-again}
 use Rattle.scenario_text.proofs.scan.read_scenario.Goals as goal
 
 pub returns : goal.returns

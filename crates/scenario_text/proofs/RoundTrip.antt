@@ -2,7 +2,7 @@
 use Rattle.std.proofs.Common.{◌≡◌, ℕ, List, Result, Ok, Err, ap, ◌∙◌, subst}
 use Rattle.std.specs.Result.{IfOk}
 use Rattle.kern_ids.specs.declared.faults.ReadFault.{ReadFault}
-use Rattle.kernel_model.specs.Scenario.{Plan}
+use Rattle.kernel_model.specs.Scenario.{Plan, two}
 use Rattle.line_text.specs.Cut.{text_of}
 use Rattle.scenario_text.specs.Grammar.{scenario_of}
 use Rattle.scenario_text.specs.Gives.{ReadGives}
@@ -32,3 +32,12 @@ read-valid (Err e) bytes g = tt
 
 pub read-again : (r : Result Plan ReadFault) (bytes : List ℕ) (s : Plan) → ReadGives r (scenario_of bytes) → HasText s → bytes ≡ scenario_text s → ReadGives r (Ok s)
 read-again r bytes s g h e = subst (ReadGives r) (ap scenario_of e ∙ scenario_of-again s h) g
+
+pub two-text : (s : Plan) → HasText s → HasText (two s)
+two-text s h =
+    let v = h.valid in
+    record {
+      valid = record { boot = v.boot; form = tt; tasks = λ k d l. tt; scripts = v.scripts; calls = v.calls; few_calls = v.few_calls; order = v.order; few_turns = v.few_turns };
+      bands = h.bands;
+      calls = h.calls;
+    }
