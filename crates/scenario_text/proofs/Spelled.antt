@@ -129,9 +129,10 @@ store_takes first frames target inactive ws x e =
     let form = bind_ok (grammar.form_words first critical.0.1) _ x critical.4 in
     form_end first frames target inactive store.0.0 critical.0.0 ws critical.0.1 form.0 x (onto (λ v. codes "store" ∷ decimal store.0.0 ∷ v) store.1 critical.1) store.3 critical.3 (form_takes first critical.0.1 form.0 form.1) form.2
 
-system_by : (first : Bool) (w : Word) (ws rest : List Word) (frames target inactive : ℕ) (x : Form × Params) → w ≡ codes "system" → ws ≡ codes "frames" ∷ decimal frames ∷ codes "target" ∷ decimal target ∷ codes "inactive" ∷ decimal inactive ∷ rest
+system_by : (first : Bool) (w : Word) (ws w1 w2 rest : List Word) (frames target inactive : ℕ) (x : Form × Params) → w ≡ codes "system" → ws ≡ codes "frames" ∷ decimal frames ∷ w1 → w1 ≡ codes "target" ∷ decimal target ∷ w2 → w2 ≡ codes "inactive" ∷ decimal inactive ∷ rest
     → 1 ≤ frames → frames ≤ 4096 → target ≤ 4096 → inactive ≤ 4096 → StoreIs first frames target inactive rest x → SystemIs first (w ∷ ws) x
-system_by first w ws rest frames target inactive x word line some f t i k =
+system_by first w ws w1 w2 rest frames target inactive x word e1 e2 e3 some f t i k =
+    let line = onto (λ v. codes "frames" ∷ decimal frames ∷ v) e1 (onto (λ v. codes "target" ∷ decimal target ∷ v) e2 e3) in
     let numbers : ws ≡ codes "frames" ∷ decimal x.1.frames ∷ codes "target" ∷ decimal x.1.target ∷ codes "inactive" ∷ decimal x.1.inactive ∷ rest = line ∙ rw (k.3, k.4, k.5) refl in (
       front word (onto (λ v. codes "frames" ∷ decimal x.1.frames ∷ codes "target" ∷ decimal x.1.target ∷ codes "inactive" ∷ decimal x.1.inactive ∷ v) numbers k.0),
       k.1,
@@ -146,8 +147,7 @@ system_takes first w ws x e =
     let frames = field-then (codes "frames") 1 4096 ws _ x (omega arith) g.1 in
     let target = field-then (codes "target") 0 4096 frames.0.1 _ x (omega arith) frames.4 in
     let inactive = field-then (codes "inactive") 0 4096 target.0.1 _ x (omega arith) target.4 in
-    let line = onto (λ v. codes "frames" ∷ decimal frames.0.0 ∷ v) frames.1 (onto (λ v. codes "target" ∷ decimal target.0.0 ∷ v) target.1 inactive.1) in
-    system_by first w ws inactive.0.1 frames.0.0 target.0.0 inactive.0.0 x (word_takes w (codes "system") g.0) line frames.2 frames.3 target.3 inactive.3 (store_takes first frames.0.0 target.0.0 inactive.0.0 inactive.0.1 x inactive.4)
+    system_by first w ws frames.0.1 target.0.1 inactive.0.1 frames.0.0 target.0.0 inactive.0.0 x (word_takes w (codes "system") g.0) frames.1 target.1 inactive.1 frames.2 frames.3 target.3 inactive.3 (store_takes first frames.0.0 target.0.0 inactive.0.0 inactive.0.1 x inactive.4)
 
 -- ---- a task
 
@@ -201,9 +201,11 @@ ages_line form band active inactive ws = do
   internal ← grammar.last_word (codes "internal") ages.1
   Ok (record { band = band; active = active; inactive = inactive; internal = internal; delay = ages.0.0; ageing = ages.0.1 })
 
-ages_by : (form : Form) (next band : ℕ) (active inactive : Limit) (ws rest : List Word) (t : TaskBoot) → IsValidForm form → ws ≡ decimal next ∷ codes "band" ∷ decimal band ∷ codes "active" ∷ (limit_words active ++ codes "inactive" ∷ (limit_words inactive ++ rest))
+ages_by : (form : Form) (next band : ℕ) (active inactive : Limit) (ws w1 w2 w3 rest : List Word) (t : TaskBoot) → IsValidForm form
+    → ws ≡ decimal next ∷ w1 → w1 ≡ codes "band" ∷ decimal band ∷ w2 → w2 ≡ codes "active" ∷ (limit_words active ++ w3) → w3 ≡ codes "inactive" ∷ (limit_words inactive ++ rest)
     → next ≤ 63 → band ≤ 20 → active.pages ≤ 65536 → inactive.pages ≤ 65536 → ages_line form band active inactive rest ≡ Ok t → TaskIs form next ws t
-ages_by form next band active inactive ws rest t valid line room low a i e =
+ages_by form next band active inactive ws w1 w2 w3 rest t valid e1 e2 e3 e4 room low a i e =
+    let line = onto (λ v. decimal next ∷ v) e1 (onto (λ v. codes "band" ∷ decimal band ∷ v) e2 (onto (λ v. codes "active" ∷ (limit_words active ++ v)) e3 e4)) in
     let ages = bind_ok (grammar.ageing_words form rest) _ t e in
     let k = ages_take form rest ages.0 valid ages.1 in
     let internal = bind_ok (grammar.last_word (codes "internal") ages.0.1) _ t ages.2 in
@@ -226,8 +228,7 @@ task_takes form next ws t valid e =
     let band = field-then (codes "band") 0 20 n.0 _ t (omega arith) n.2 in
     let active = limit-then (codes "active") band.0.1 _ t band.4 in
     let inactive = limit-then (codes "inactive") active.0.1 _ t active.3 in
-    let line = onto (λ v. decimal next ∷ v) order.0 (onto (λ v. codes "band" ∷ decimal band.0.0 ∷ v) band.1 (onto (λ v. codes "active" ∷ (limit_words active.0.0 ++ v)) active.1 inactive.1)) in
-    ages_by form next band.0.0 active.0.0 inactive.0.0 ws inactive.0.1 t valid line order.1 band.3 active.2 inactive.2 inactive.3
+    ages_by form next band.0.0 active.0.0 inactive.0.0 ws n.0 band.0.1 active.0.1 inactive.0.1 t valid order.0 band.1 active.1 inactive.1 order.1 band.3 active.2 inactive.2 inactive.3
 
 -- ---- an object
 
@@ -245,6 +246,9 @@ reference-then high count ws f y small e =
 abbrev SharersAre : ℕ → ℕ → List Word → List ℕ × List Word → Type 0
 SharersAre tasks bound ws x = (ws ≡ map decimal x.0 ++ codes "pages" ∷ x.1) × IsRisingFrom bound x.0 × All (λ t. t < tasks) x.0
 
+sharer_by : (tasks bound n : ℕ) (w : Word) (ws : List Word) (r x : List ℕ × List Word) → w ≡ decimal n → bound ≤ n → n < tasks → SharersAre tasks (n + 1) ws r → (n ∷ r.0, r.1) ≡ x → SharersAre tasks bound (w ∷ ws) x
+sharer_by tasks bound n w ws r x word above declared more e = subst (SharersAre tasks bound (w ∷ ws)) e (front word more.0, (above, more.1), All-cons (λ t. t < tasks) n r.0 declared more.2)
+
 sharers_take : (tasks bound : ℕ) (ws : List Word) (x : List ℕ × List Word) → grammar.sharers tasks bound ws ≡ Ok x → SharersAre tasks bound ws x
 unfolding grammar.sharers
 sharers_take tasks bound [] x e = absurd cc
@@ -258,16 +262,16 @@ sharers_take tasks bound (w ∷ ws) x e = elim (chosen (bytes_eq w (codes "pages
       let above = guard_not (ltb n.0 bound) (grammar.sharers tasks (n.0 + 1) ws >>= λ r. Ok (n.0 ∷ r.0, r.1)) why.Repeated x declared.1 in
       let r = bind_ok (grammar.sharers tasks (n.0 + 1) ws) (λ r. Ok (n.0 ∷ r.0, r.1)) x above.1 in
       let more = sharers_take tasks (n.0 + 1) ws r.0 r.1 in
-      subst (SharersAre tasks bound (w ∷ ws)) (ok_is (n.0 ∷ r.0.0, r.0.1) x r.2)
-      (ap (λ (v : Word). v ∷ ws) word.0 ∙ ap (λ (v : List Word). decimal n.0 ∷ v) more.0, (ltb-false n.0 bound above.0, more.1), All-cons (λ t. t < tasks) n.0 r.0.0 (ltb-true n.0 tasks declared.0) more.2)
+      sharer_by tasks bound n.0 w ws r.0 x word.0 (ltb-false n.0 bound above.0) (ltb-true n.0 tasks declared.0) more (ok_is (n.0 ∷ r.0.0, r.0.1) x r.2)
 ]
 
 abbrev pub ObjectIs : ℕ → ℕ → List Word → ObjBoot → Type 0
 ObjectIs tasks next ws o = (codes "object" ∷ ws ≡ text.object_words next o) × (next ≤ 255) × IsValidObject tasks o
 
-pages_by : (tasks next first : ℕ) (ws rest : List Word) (others : List ℕ × List Word) (o : ObjBoot) → ws ≡ decimal next ∷ codes "task" ∷ decimal first ∷ rest → next ≤ 255 → first < tasks → SharersAre tasks (first + 1) rest others
+pages_by : (tasks next first : ℕ) (ws w1 w2 rest : List Word) (others : List ℕ × List Word) (o : ObjBoot) → ws ≡ decimal next ∷ w1 → w1 ≡ codes "task" ∷ w2 → w2 ≡ decimal first ∷ rest → next ≤ 255 → first < tasks → SharersAre tasks (first + 1) rest others
     → (number 1 256 others.1 >>= λ pages. finished pages.1 (record { tasks = first ∷ others.0; pages = pages.0 })) ≡ Ok o → ObjectIs tasks next ws o
-pages_by tasks next first ws rest others o line room declared k e =
+pages_by tasks next first ws w1 w2 rest others o e1 e2 e3 room declared k e =
+    let line = onto (λ v. decimal next ∷ v) e1 (onto (λ v. codes "task" ∷ v) e2 e3) in
     let pages = number-then 1 256 others.1 _ o (omega arith) e in
     let p : ObjBoot = record { tasks = first ∷ others.0; pages = pages.0.0 } in
     let end = finished_takes pages.0.1 p o pages.4 in
@@ -286,8 +290,7 @@ object_takes tasks next ws o e =
     let a = fixed-then (codes "task") n.0 _ o n.2 in
     let first = reference-then 63 tasks a.0 _ o (omega arith) a.2 in
     let others = bind_ok (grammar.sharers tasks (first.0.0 + 1) first.0.1) _ o first.3 in
-    let line = onto (λ v. decimal next ∷ v) order.0 (onto (λ v. codes "task" ∷ v) a.1 first.1) in
-    pages_by tasks next first.0.0 ws first.0.1 others.0 o line order.1 first.2 (sharers_take tasks (first.0.0 + 1) first.0.1 others.0 others.1) others.2
+    pages_by tasks next first.0.0 ws n.0 a.0 first.0.1 others.0 o order.0 a.1 first.1 order.1 first.2 (sharers_take tasks (first.0.0 + 1) first.0.1 others.0 others.1) others.2
 
 -- ---- a thread
 

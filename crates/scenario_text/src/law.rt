@@ -24,9 +24,7 @@ fn bands_have_words(tasks: &[TaskBoot])
 // What the type says of a number.
 fn number_has_word(n: u32)
     ensures { n < 2 ^ 32 }
-{
-    let _ = n;
-}
+{}
 
 // What the type says of bytes.
 fn bytes_have_word(bytes: &[u8])
