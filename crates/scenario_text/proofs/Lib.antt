@@ -3,3 +3,12 @@ pub mod OrderLemmas
 pub mod LineLemmas
 pub mod FitLemmas
 pub mod PieceLemmas
+pub mod Runs
+pub mod Spelled
+pub mod Grown
+pub mod Told
+pub mod Again
+pub mod Written
+pub mod Clean
+pub mod RoundTrip
+pub mod TypeLaws

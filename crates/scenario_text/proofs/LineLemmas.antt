@@ -5,7 +5,7 @@ use Rattle.std.specs.List.{slice_split}
 use Rattle.kern_ids.specs.declared.faults.Why.{Why}
 use Rattle.kern_ids.specs.declared.faults.Why.TheVariants as why
 use Rattle.kernel_model.specs.Scenario.{Plan}
-use Rattle.line_text.specs.Cut.{Word, lines_of, words_of}
+use Rattle.line_text.specs.Cut.{lines_of, words_of}
 use Rattle.line_text.proofs.CutLemmas.{some_part}
 use Rattle.scenario_text.specs.declared.place.Place.{Place}
 use Rattle.scenario_text.specs.declared.place.Place.TheVariants as place

@@ -1,5 +1,5 @@
 -- The words of the order line, one by one.
-use Rattle.std.proofs.Common.{◌≡◌, ℕ, ◌<◌, Bool, true, false, cond, ltb, List, [], ◌∷◌, ◌++◌, length, Result, Ok, Err, refl, sym, ap, ◌∙◌}
+use Rattle.std.proofs.Common.{◌≡◌, ℕ, ◌<◌, Bool, true, false, cond, ltb, List, [], ◌∷◌, ◌++◌, length, Result, Ok, Err, refl}
 use Rattle.std.proofs.lemmas.Bool.{ltb-true}
 use Rattle.kern_ids.specs.declared.faults.Why.{Why}
 use Rattle.kern_ids.specs.declared.faults.Why.TheVariants as why

@@ -1,6 +1,6 @@
 -- The tasks of an object, one by one.
-use Rattle.std.proofs.Common.{◌≡◌, ℕ, zero, suc, ◌+◌, ◌<◌, ◌≤◌, Bool, true, false, cond, ltb, List, [], ◌∷◌, ◌++◌, length, Result, Ok, Err, refl, sym, ap, ◌∙◌, arith, append_assoc, All}
-use Rattle.std.specs.Prelude.{codes, slice_get, Some, None, Option}
+use Rattle.std.proofs.Common.{◌≡◌, ℕ, suc, ◌+◌, ◌<◌, ◌≤◌, Bool, true, false, cond, ltb, List, [], ◌∷◌, ◌++◌, Result, Ok, Err, refl, sym, ap, ◌∙◌, arith, append_assoc, All}
+use Rattle.std.specs.Prelude.{codes, slice_get, Some, None}
 use Rattle.std.specs.Str.{bytes_eq}
 use Rattle.std.proofs.lemmas.Bool.{lt-ltb, le-ltb}
 use Rattle.kern_ids.specs.declared.faults.Why.{Why}
@@ -8,8 +8,7 @@ use Rattle.kern_ids.specs.declared.faults.Why.TheVariants as why
 use Rattle.kernel_model.specs.Valid.{IsRisingFrom}
 use Rattle.line_text.specs.Cut.{Word}
 use Rattle.line_text.specs.Numbers.{is_plain, number_in}
-use Rattle.line_text.specs.Words.{◌>>=◌, reference, number}
-use Rattle.line_text.proofs.GrammarLemmas.{reference_takes}
+use Rattle.line_text.specs.Words.{◌>>=◌, reference}
 use Rattle.scenario_text.specs.Grammar.{sharers, sharer_from}
 use Rattle.scenario_text.specs.Gives.{front_sharers}
 

@@ -6,13 +6,13 @@ use Rattle.kern_ids.specs.declared.faults.ReadFault.TheVariants as whole
 use Rattle.kernel_model.specs.Scenario.{Plan}
 use Rattle.kernel_model.specs.declared.scenario.Form.{Form}
 use Rattle.kernel_model.specs.declared.scenario.Form.TheVariants.{One, Two}
-use Rattle.line_text.specs.Cut.{Word, lines_of}
+use Rattle.line_text.specs.Cut.{Word}
 use Rattle.line_text.specs.Words.{◌>>=◌}
 use Rattle.scenario_text.specs.declared.place.Place.{Place}
 use Rattle.scenario_text.specs.declared.place.Place.TheVariants as place
 use Rattle.scenario_text.specs.declared.fault.LineFault.{LineFault}
 use Rattle.scenario_text.specs.declared.fault.LineFault.TheVariants as line
-use Rattle.scenario_text.specs.Grammar.{Front, headed, reading, Read, front_from, sharers}
+use Rattle.scenario_text.specs.Grammar.{Front, reading, sharers}
 
 -- the line's fault
 abbrev pub LineFails : {A : Type 0} → LineFault → Result A Why → Type 0

@@ -1,10 +1,9 @@
 -- Reading a scenario line by line, up to the first fault. A line is its words.
-use Rattle.std.specs.Prelude.{ℕ, ◌+◌, ◌-◌, List, [], ◌∷◌, ◌++◌, length, Option, Some, None, Result, Ok, Err, Bool, true, false, is_some, codes, nat_lt, if◌then◌else◌, slice_set, slice_index_or}
+use Rattle.std.specs.Prelude.{ℕ, ◌+◌, ◌-◌, List, [], ◌∷◌, ◌++◌, length, Some, None, Result, Ok, Err, Bool, true, false, is_some, codes, nat_lt, if◌then◌else◌, slice_set, slice_index_or}
 use Rattle.std.specs.Str.{bytes_eq}
 use Rattle.kern_ids.specs.declared.faults.Why.{Why}
 use Rattle.kern_ids.specs.declared.faults.Why.TheVariants as why
 use Rattle.kern_ids.specs.declared.calls.Call.{Call}
-use Rattle.kern_ids.specs.declared.calls.Limit.{Limit}
 use Rattle.kernel_model.specs.declared.boot.Params.{Params}
 use Rattle.kernel_model.specs.declared.boot.TaskBoot.{TaskBoot}
 use Rattle.kernel_model.specs.declared.boot.ObjBoot.{ObjBoot}

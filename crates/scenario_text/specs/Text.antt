@@ -1,8 +1,7 @@
 -- The one text of a scenario, as lines of words.
-use Rattle.std.specs.Prelude.{ℕ, ◌+◌, ◌<◌, ◌≤◌, ◌^◌, List, [], ◌∷◌, ◌++◌, length, map, codes, All, if◌then◌else◌}
+use Rattle.std.specs.Prelude.{ℕ, ◌+◌, ◌≤◌, List, [], ◌∷◌, ◌++◌, length, map, codes, All, if◌then◌else◌}
 use Rattle.std.specs.Fmt.{decimal}
 use Rattle.kern_ids.specs.declared.calls.Call.{Call}
-use Rattle.kern_ids.specs.declared.calls.Limit.{Limit}
 use Rattle.kernel_model.specs.declared.boot.Params.{Params}
 use Rattle.kernel_model.specs.declared.boot.TaskBoot.{TaskBoot}
 use Rattle.kernel_model.specs.declared.boot.ObjBoot.{ObjBoot}
@@ -11,7 +10,7 @@ use Rattle.kernel_model.specs.declared.boot.Side.TheVariants.{Task, Kernel}
 use Rattle.kernel_model.specs.declared.scenario.Form.{Form}
 use Rattle.kernel_model.specs.declared.scenario.Form.TheVariants.{One, Two}
 use Rattle.kernel_model.specs.Scenario.{Plan, IsValid}
-use Rattle.line_text.specs.Cut.{Word, line_of, text_of}
+use Rattle.line_text.specs.Cut.{Word, text_of}
 use Rattle.line_text.specs.Calls.{limit_words, call_words, HasLine}
 
 abbrev pub form_word : Form → Word

@@ -4,6 +4,7 @@
 
 mod declarations;
 mod fault;
+pub mod law;
 mod pieces;
 mod place;
 mod scan;

@@ -6,6 +6,7 @@ ghost use Rattle.kernel_model.specs.Scenario.{Plan};
 ghost use Rattle.scenario_text.specs.Grammar.{headed, reading, head_line, system_line, is_ended, order_words, script_line, later_line, declaring_line, line_at, turn, last_thread, start, step, front_from, front_of, scenario_of};
 ghost use Rattle.kernel_model.specs.Events.{task_of_side};
 ghost use Rattle.kernel_model.specs.declared.boot.Side.TheVariants.{Kernel};
+ghost use Rattle.scenario_text.specs.Text.{scenario_text, HasText};
 ghost use Rattle.scenario_text.specs.Gives.{StepGives, OrderGives, ReadGives, ReadFails, InScript};
 
 use crate::declarations::{head_line, object_line, system_line, task_line, thread_line};
@@ -321,8 +322,8 @@ fn scan(alloc: Global, text: &[u8]) -> Result<(Scenario, &[u8], u32), ReadFault>
     }
 }
 
-/// The scenario that a text is, or its first fault. Fewer than 2^31 bytes.
-pub fn read_scenario(alloc: Global, text: &[u8]) -> Result<Scenario, ReadFault>
+// The scenario that a text is, or its first fault.
+fn read_whole(alloc: Global, text: &[u8]) -> Result<Scenario, ReadFault>
     requires { length text.now < 2 ^ 31 }
     ensures { ReadGives result (scenario_of text.now) }
 {
@@ -339,4 +340,20 @@ pub fn read_scenario(alloc: Global, text: &[u8]) -> Result<Scenario, ReadFault>
         }
         Err(fault) => Err(fault),
     }
+}
+
+/// The scenario that a text is, or its first fault. Fewer than 2^31 bytes. A text is read exactly where it is
+/// that of a scenario, unless memory runs out.
+pub fn read_scenario(alloc: Global, text: &[u8]) -> Result<Scenario, ReadFault>
+    requires { length text.now < 2 ^ 31 }
+    // Which scenario or which fault it is.
+    ensures exact { ReadGives result (scenario_of text.now) }
+    // What is read is the text of that scenario.
+    ensures written { IfOk result (λ s. text.now ≡ scenario_text s) }
+    // A scenario that was read can be written.
+    ensures valid { IfOk result (λ s. HasText s) }
+    // The text of a scenario is read as it.
+    ensures again { (s : Plan) → HasText s → text.now ≡ scenario_text s → ReadGives result (Ok s) }
+{
+    read_whole(alloc, text)
 }

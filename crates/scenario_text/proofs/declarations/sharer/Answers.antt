@@ -1,4 +1,4 @@
-use Rattle.std.proofs.Common.{◌≡◌, sym, ◌∙◌, arith, false, codes}
+use Rattle.std.proofs.Common.{◌≡◌, arith, false, codes}
 use Rattle.std.specs.Str.{bytes_eq}
 use Rattle.line_text.specs.Numbers.{is_plain}
 use Rattle.scenario_text.proofs.SharerLemmas.{sharers-nothing, sharers-first}

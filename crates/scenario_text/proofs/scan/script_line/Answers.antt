@@ -1,7 +1,4 @@
-use Rattle.std.proofs.Common.{◌≡◌, length, Ok, sym, ◌∙◌, ap₂, ℕ}
-use Rattle.std.specs.Prelude.{is_some}
-use Rattle.line_text.specs.Calls.{call_of}
-use Rattle.line_text.specs.Verbs.{is_task_verb}
+use Rattle.std.proofs.Common.{sym, ◌∙◌}
 use Rattle.scenario_text.proofs.FitLemmas.{fits-read, not-differs}
 use Rattle.scenario_text.proofs.scan.script_line.Goals as goal
 

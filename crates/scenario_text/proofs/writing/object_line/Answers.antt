@@ -1,8 +1,7 @@
-use Rattle.std.proofs.Common.{◌≡◌, List, ℕ, ◌∷◌, ◌++◌, [], map, append_assoc, sym, ap, ◌∙◌}
+use Rattle.std.proofs.Common.{List, ◌∷◌, ◌++◌, [], map, sym, ◌∙◌}
 use Rattle.std.specs.Prelude.{codes}
 use Rattle.std.specs.Fmt.{decimal}
-use Rattle.std.proofs.lemmas.Grind.{flat_map-append}
-use Rattle.line_text.specs.Cut.{Word, spaced}
+use Rattle.line_text.specs.Cut.{Word}
 use Rattle.scenario_text.proofs.PieceLemmas.{line_of-spaced, five_parts, object_parts}
 use Rattle.scenario_text.proofs.writing.object_line.Goals as goal
 

@@ -1,7 +1,7 @@
-use Rattle.std.proofs.Common.{◌≡◌, List, ℕ, ◌∷◌, ◌++◌, [], append_assoc, sym, ◌∙◌}
+use Rattle.std.proofs.Common.{List, ◌∷◌, append_assoc, sym, ◌∙◌}
 use Rattle.std.specs.Prelude.{codes}
 use Rattle.std.specs.Fmt.{decimal}
-use Rattle.line_text.specs.Cut.{Word, spaced}
+use Rattle.line_text.specs.Cut.{Word}
 use Rattle.scenario_text.specs.Text.{delay_words}
 use Rattle.scenario_text.proofs.PieceLemmas.{line_of-spaced, seven_parts}
 use Rattle.scenario_text.proofs.writing.system_line.Goals as goal

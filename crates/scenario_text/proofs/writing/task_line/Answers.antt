@@ -1,8 +1,7 @@
-use Rattle.std.proofs.Common.{◌≡◌, List, ℕ, ◌∷◌, ◌++◌, [], append_assoc, sym, ◌∙◌}
+use Rattle.std.proofs.Common.{List, ◌∷◌, ◌++◌, sym, ◌∙◌}
 use Rattle.std.specs.Prelude.{codes}
 use Rattle.std.specs.Fmt.{decimal}
-use Rattle.std.proofs.lemmas.Grind.{flat_map-append}
-use Rattle.line_text.specs.Cut.{Word, spaced}
+use Rattle.line_text.specs.Cut.{Word}
 use Rattle.line_text.specs.Calls.{limit_words, fatal_word}
 use Rattle.scenario_text.specs.Text.{ages_words, internal_words}
 use Rattle.scenario_text.proofs.PieceLemmas.{line_of-spaced, seven_parts, task_parts}
