@@ -4,6 +4,7 @@ Both programs do the same random operations and print the checksum of what was a
 least processor time of several runs, less that of a run without operations.
 """
 import os
+import shutil
 import subprocess
 import sys
 import tempfile
@@ -11,6 +12,8 @@ import tempfile
 ROOT = os.path.dirname(os.path.dirname(os.path.abspath(__file__)))
 CRATE = os.path.join(ROOT, "crates", "parts_bench")
 PLAIN = os.path.join(ROOT, "bench", "plain", "main.rs")
+# As `rt run` builds: for the same processors, all of the program at once.
+RUSTC_OPTIONS = ["--edition", "2024", "-C", "opt-level=3", "-C", "codegen-units=1", "-C", "target-cpu=x86-64-v2"]
 ROUNDS = 15
 MOST_RATIO = 1.5
 
@@ -18,8 +21,10 @@ MOST_RATIO = 1.5
 def built(folder):
     """The program that `rt run` builds, and the plain one, built into a folder."""
     subprocess.run(["rt", "run", "--", "lists", "1"], check=True, cwd=CRATE, stdout=subprocess.DEVNULL)
+    if shutil.which("rustc") is None:
+        sys.exit("rustc is wanted, for the plain version")
     plain = os.path.join(folder, "plain")
-    subprocess.run(["rustc", "--edition", "2024", "-C", "opt-level=3", "-o", plain, PLAIN], check=True)
+    subprocess.run(["rustc", *RUSTC_OPTIONS, "-o", plain, PLAIN], check=True)
     return os.path.join(CRATE, "out", "parts_bench"), plain
 
 
