@@ -1,3 +1,4 @@
 pub mod FindLemmas
 pub mod PickLemmas
 pub mod FollowLemmas
+pub mod AsManyLemmas

@@ -30,7 +30,7 @@ find-passes p (x ∷ xs) y h = elim (cases_Bool (p x)) as (λ _. p y ≡ true) [
 pub ripe_queue-begins : (d : QueueDues) (q : Queue) → ripe_queue d ≡ Some q → begins_ripe (dues_in d q) ≡ true
 ripe_queue-begins d q h = find-passes (λ k. begins_ripe (dues_in d k)) (Obsolete ∷ Lifo ∷ Fifo ∷ []) q h
 
-some_token : (ds : List ℕ) → begins_ripe ds ≡ true → 0 < length ds
+pub some_token : (ds : List ℕ) → begins_ripe ds ≡ true → 0 < length ds
 some_token [] h = absurd (cc)
 some_token (d ∷ ds) h = omega arith
 

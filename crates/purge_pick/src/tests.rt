@@ -1,99 +1,110 @@
-//! Runs of the tokens and groups with the counts that the kernel's worked examples give.
+//! Worked examples, call by call: when tokens are ripe, which goes, and which object is purged.
 
-use super::*;
-use kern_ids::replies::QueueCounts;
+mod parts;
+
+use kern_ids::calls::Queue::{self, Fifo, Lifo, Obsolete};
+use parts::Step::{Deactivated, Emptied, Forced, Freed, Nonvolatile, Purge, Tokens, Volatile};
+use parts::{Parts, Step};
 use std::test::Fail;
 
-/// A token that is added with 3 pages entered and 1 gone is ripe after exactly two departures.
-#[test]
-fn ripe_after_two_departures(rt: HostRuntime) -> Result<(), Fail> {
-    let mut queues = TokenQueues::new(rt.alloc())?;
-    queues.entered(3);
-    queues.departed(1);
-    queues.add(Queue::Fifo);
-    assert_eq!(rt;
-        queues.counts().fifo,
-        QueueCounts {
-            tokens: 1,
-            ripe: 0,
-            next: 2,
-            last: 2
-        }
-    );
-    queues.departed(1);
-    assert!(rt; !queues.ripe(Queue::Fifo));
-    queues.departed(1);
-    assert!(rt; queues.ripe(Queue::Fifo));
-    Ok(())
-}
+/// A token that is ripe at once.
+const RIPE_AT_ONCE: [Step; 4] = [Volatile(0, Fifo, 0), Deactivated, Purge(Some(0)), Freed];
 
-/// A return to NONVOLATILE takes the last token of the queue, and an emptying the first.
-#[test]
-fn last_goes_at_a_return_first_at_an_emptying(rt: HostRuntime) -> Result<(), Fail> {
-    let mut queues = TokenQueues::new(rt.alloc())?;
-    queues.entered(1);
-    queues.add(Queue::Fifo);
-    queues.entered(2);
-    queues.add(Queue::Fifo);
-    queues.drop_last(Queue::Fifo);
-    assert_eq!(rt;
-        queues.counts().fifo,
-        QueueCounts {
-            tokens: 1,
-            ripe: 0,
-            next: 1,
-            last: 1
-        }
-    );
-    queues.add(Queue::Fifo);
-    queues.drop_first(Queue::Fifo);
-    assert_eq!(rt;
-        queues.counts().fifo,
-        QueueCounts {
-            tokens: 1,
-            ripe: 0,
-            next: 3,
-            last: 3
-        }
-    );
-    Ok(())
-}
+/// Added with three pages entered and one gone, a token is ripe after exactly two departures.
+const RIPE_AFTER_TWO: [Step; 11] = [
+    Deactivated,
+    Deactivated,
+    Deactivated,
+    Freed,
+    Volatile(1, Fifo, 0),
+    Tokens([0, 0, 0, 0, 0, 0, 0, 0, 1, 0, 2, 2]),
+    Purge(None),
+    Freed,
+    Purge(None),
+    Freed,
+    Purge(Some(1)),
+];
 
-/// An object goes from FIFO to LIFO and on to OBSOLETE, and is purged by force.
+/// An object of FIFO in group 0 goes for the ripe token of LIFO, whose objects are in group 2, and its token moves.
+const TOKEN_MOVES: [Step; 13] = [
+    Volatile(1, Lifo, 2),
+    Deactivated,
+    Deactivated,
+    Volatile(2, Lifo, 2),
+    Deactivated,
+    Volatile(3, Fifo, 0),
+    Purge(Some(3)),
+    Tokens([0, 0, 0, 0, 2, 0, 2, 3, 0, 0, 0, 0]),
+    Purge(None),
+    Freed,
+    Freed,
+    Purge(Some(2)),
+    Tokens([0, 0, 0, 0, 1, 0, 1, 1, 0, 0, 0, 0]),
+];
+
+/// A return to NONVOLATILE takes the last token of the queue, and not the object's own.
+const LAST_GOES: [Step; 10] = [
+    Deactivated,
+    Volatile(1, Fifo, 0),
+    Deactivated,
+    Deactivated,
+    Volatile(2, Fifo, 0),
+    Nonvolatile(1),
+    Tokens([0, 0, 0, 0, 0, 0, 0, 0, 1, 0, 1, 1]),
+    Purge(None),
+    Freed,
+    Purge(Some(2)),
+];
+
+/// An emptying takes the first.
+const FIRST_GOES: [Step; 7] = [
+    Deactivated,
+    Volatile(1, Fifo, 0),
+    Deactivated,
+    Deactivated,
+    Volatile(2, Fifo, 0),
+    Emptied(2),
+    Tokens([0, 0, 0, 0, 0, 0, 0, 0, 1, 0, 3, 3]),
+];
+
+/// From FIFO to LIFO, to another group, to OBSOLETE.
+const FROM_QUEUE_TO_QUEUE: [Step; 10] = [
+    Volatile(1, Fifo, 0),
+    Deactivated,
+    Volatile(1, Lifo, 0),
+    Tokens([0, 0, 0, 0, 1, 0, 1, 1, 0, 0, 0, 0]),
+    Deactivated,
+    Volatile(1, Lifo, 2),
+    Tokens([0, 0, 0, 0, 1, 0, 1, 1, 0, 0, 0, 0]),
+    Volatile(1, Obsolete, 0),
+    Tokens([1, 1, 0, 0, 0, 0, 0, 0, 0, 0, 0, 0]),
+    Purge(Some(1)),
+];
+
+/// By force an object of FIFO goes before one of OBSOLETE, whose token is ripe.
+const BY_FORCE: [Step; 6] = [
+    Volatile(1, Obsolete, 0),
+    Deactivated,
+    Volatile(2, Fifo, 3),
+    Forced(Some(2)),
+    Forced(Some(1)),
+    Forced(None),
+];
+
 #[test]
-fn from_queue_to_queue(rt: HostRuntime) -> Result<(), Fail> {
-    let mut queues = TokenQueues::new(rt.alloc())?;
-    let mut groups = Groups::new(rt.alloc())?;
-    let Some(object) = ObjId::new(1) else {
-        return Ok(());
-    };
-    queues.add(Queue::Fifo);
-    queues.entered(1);
-    queues.drop_last(Queue::Fifo);
-    queues.add(Queue::Lifo);
-    assert_eq!(rt;
-        queues.counts().lifo,
-        QueueCounts {
-            tokens: 1,
-            ripe: 0,
-            next: 1,
-            last: 1
-        }
-    );
-    queues.entered(1);
-    queues.drop_last(Queue::Lifo);
-    queues.add(Queue::Obsolete);
-    assert_eq!(rt;
-        queues.counts().obsolete,
-        QueueCounts {
-            tokens: 1,
-            ripe: 1,
-            next: 0,
-            last: 0
-        }
-    );
-    assert!(rt; groups.queue_of(object).is_none());
-    groups.enter(object, Queue::Obsolete, 0);
-    assert_eq!(rt; forced(&groups), Some(object));
+fn worked_examples(rt: HostRuntime) -> Result<(), Fail> {
+    let examples: [(&str, &[Step]); 7] = [
+        ("ripe at once", &RIPE_AT_ONCE),
+        ("ripe after two", &RIPE_AFTER_TWO),
+        ("token moves", &TOKEN_MOVES),
+        ("last goes", &LAST_GOES),
+        ("first goes", &FIRST_GOES),
+        ("from queue to queue", &FROM_QUEUE_TO_QUEUE),
+        ("by force", &BY_FORCE),
+    ];
+    for (name, steps) in examples {
+        let mut parts = Parts::new(rt.alloc())?;
+        assert_eq!(rt; parts.first_wrong(steps), None, "{name}");
+    }
     Ok(())
 }
