@@ -1,7 +1,7 @@
 //! The commands of the program: from its words, a source and a sink to the exit status.
 #![tactic(auto)]
 
-mod answer;
+pub mod answer;
 mod command;
 mod decide;
 mod messages;

@@ -1,0 +1,48 @@
+-- What a call of the program comes to.
+use Rattle.std.specs.Prelude.{◌≡◌, ◌≢◌, ◌≤◌, ◌⊎◌, ◌∷◌, [], ℕ, List, ◌++◌, Bool, false, Option, Some, None, Contains, codes}
+use Rattle.std.specs.Str.{bytes_eq}
+use Rattle.std.specs.Io.KnownBytes.{Appends, Keeps}
+use Rattle.edge.specs.Ends.{Rose}
+use Rattle.kern_ids.specs.declared.entries.Entry.{Entry}
+use Rattle.kernel_model.specs.Scenario.{Plan}
+use Rattle.line_text.specs.Cut.{Word}
+use Rattle.scenario_text.specs.Text.{scenario_text, HasText}
+use Rattle.history_text.specs.History.{history_text}
+use Rattle.commands.specs.Commands.{command_of}
+use Rattle.commands.specs.Messages.{read_fault}
+use Rattle.commands.specs.Calls.{WritesOutcome, WritesFront as WritesSerialFront, IsReadFault, IsAccepted as IsSerialAccepted}
+use Rattle.run_command.specs.Outcome.{IsHistoryOf}
+use Rattle.run_command.specs.Calls.{WritesRun, WritesFront, IsAccepted}
+
+-- the one word `run`
+abbrev pub asks_run : List Word → Bool
+asks_run [] = false
+asks_run (word ∷ []) = bytes_eq word (codes "run")
+asks_run (word ∷ other ∷ words) = false
+
+-- where the source tells its bytes: they are the text of a valid scenario, and what was written is this text and that of one of its histories
+abbrev pub WritesHistory : Option (List ℕ) → Option (List ℕ) → Option (List ℕ) → Type 0
+WritesHistory None held holds = Unit {0}
+WritesHistory (Some left) held holds =
+    (s : Plan) × (h : List Entry) × HasText s × (left ≡ scenario_text s) × IsHistoryOf s h × Appends held holds (scenario_text s ++ history_text h)
+
+-- the statuses of `run`, each by its cause, and what was written
+pub record IsRunResult (old new : Option (List ℕ)) (faults later : ℕ) (held holds : Option (List ℕ)) (sunk deeper status : ℕ) : Type 0 where
+  pub outcome : status ≢ 4 → status ≢ 5 → status ≢ 9 → WritesRun old new held holds status
+  pub read : status ≡ 4 → Rose faults later × Appends held holds read_fault
+  pub write : status ≡ 5 → Rose sunk deeper × WritesFront old new faults later held holds
+  pub memory : status ≡ 9 → Keeps held holds
+  pub statuses : Contains (0 ∷ 3 ∷ 4 ∷ 5 ∷ 7 ∷ 9 ∷ []) status
+  pub complete : IsAccepted old → ¬ Rose faults later → ¬ Rose sunk deeper → (status ≡ 0) ⊎ (status ≡ 9)
+  pub grows : (faults ≤ later) × (sunk ≤ deeper)
+
+-- and those of every other command
+pub record IsSerialResult (words : List Word) (old new : Option (List ℕ)) (faults later : ℕ) (held holds : Option (List ℕ)) (sunk deeper status : ℕ) : Type 0 where
+  pub outcome : status ≢ 4 → status ≢ 5 → status ≢ 9 → WritesOutcome words old new held holds status
+  pub read : status ≡ 4 → IsReadFault words faults later × Appends held holds read_fault
+  pub write : status ≡ 5 → Rose sunk deeper × WritesSerialFront words old new faults later held holds
+  pub memory : status ≡ 9 → Keeps held holds
+  pub statuses : Contains (0 ∷ 2 ∷ 3 ∷ 4 ∷ 5 ∷ 7 ∷ 9 ∷ []) status
+  pub unread : command_of words ≡ None → Keeps old new × (later ≡ faults)
+  pub complete : IsSerialAccepted words old → ¬ Rose faults later → ¬ Rose sunk deeper → (status ≡ 0) ⊎ (status ≡ 9)
+  pub grows : (faults ≤ later) × (sunk ≤ deeper)
