@@ -1,10 +1,11 @@
 //! The program: it takes its words, standard input and standard output, and ends with the exit status.
 #![tactic(auto)]
 
-use commands::serial_top;
 use edge::host::{StdSink, StdSource};
 use edge::words::Words;
 use kern_ids::entries::NoMemory;
+use kernel_shared::gate::NoGate;
+use run_command::jetlab_top;
 use std::env;
 use std::io::ErrorKind;
 use std::process::ExitCode;
@@ -32,5 +33,12 @@ fn main(rt: HostRuntime) -> ExitCode {
     };
     let mut source = StdSource::new(rt.stdin());
     let mut sink = StdSink::new(rt.stdout());
-    ExitCode::from(serial_top(rt.alloc(), &words, &mut source, &mut sink))
+    ExitCode::from(jetlab_top(
+        &rt,
+        rt.alloc(),
+        &words,
+        &mut source,
+        &mut sink,
+        &NoGate,
+    ))
 }
