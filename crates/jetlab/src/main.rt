@@ -33,12 +33,5 @@ fn main(rt: HostRuntime) -> ExitCode {
     };
     let mut source = StdSource::new(rt.stdin());
     let mut sink = StdSink::new(rt.stdout());
-    ExitCode::from(jetlab_top(
-        &rt,
-        rt.alloc(),
-        &words,
-        &mut source,
-        &mut sink,
-        &NoGate,
-    ))
+    ExitCode::from(jetlab_top(&rt, rt.alloc(), &words, &mut source, &mut sink, &NoGate))
 }

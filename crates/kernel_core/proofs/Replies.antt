@@ -1,5 +1,5 @@
 -- The answer of a call, refused or not.
-use Rattle.std.proofs.Common.{◌≡◌, ℕ, List, Option, Some, None, map, reverse, ap, sym, ◌∙◌}
+use Rattle.std.proofs.Common.{◌≡◌, ℕ, List, Some, None, map, reverse, ap, sym, ◌∙◌}
 use Rattle.std.specs.Option.{option_map_or, unwrap_or}
 use Rattle.std.specs.List.{range_with_len}
 use Rattle.kern_ids.specs.declared.entries.Entry.{Entry}

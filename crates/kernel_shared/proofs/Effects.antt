@@ -1,29 +1,28 @@
 -- What a call does to the bytes of the object that it needs.
-use Rattle.std.proofs.Common.{◌≡◌, ◌≢◌, ℕ, ◌-◌, ◌<◌, List, [], ◌∷◌, ◌++◌, length, reverse, Option, Some, None, Bool, true, false, ◌&&◌, ◌||◌, not, if◌then◌else◌, refl, sym, ap, ◌∙◌, subst, nat_eq, nat_le, slice_get, arith, inl, inr}
+use Rattle.std.proofs.Common.{◌≡◌, ℕ, List, [], ◌∷◌, ◌++◌, reverse, Option, Some, None, Bool, true, false, ◌&&◌, not, if◌then◌else◌, refl, sym, ap, ◌∙◌, subst, nat_eq}
 use Rattle.std.specs.Prelude.{is_some}
 use Rattle.std.specs.Option.{option_map_or, unwrap_or}
-use Rattle.std.proofs.lemmas.Bool.{eq-eqb, cases_Bool}
+use Rattle.std.proofs.lemmas.Bool.{eq-eqb}
 use Rattle.std.proofs.lemmas.List.{reverse-append}
 use Rattle.kern_ids.specs.declared.entries.Entry.{Entry}
 use Rattle.kern_ids.specs.declared.calls.Call.{Call}
 use Rattle.kern_ids.specs.declared.calls.Call.TheVariants.{Map, Write, SetState}
 use Rattle.kern_ids.specs.declared.calls.State.{State}
-use Rattle.kern_ids.specs.declared.calls.Wish.{Wish}
 use Rattle.kern_ids.specs.declared.replies.Reply.{Reply}
 use Rattle.kern_ids.specs.declared.replies.Reply.TheVariants.{Old, Purged, Refused}
 use Rattle.kern_ids.specs.StateWord.{decoded}
 use Rattle.kernel_model.specs.System.{System}
 use Rattle.kernel_model.specs.Answers.{answer}
-use Rattle.kernel_model.specs.Contents.{byte, empties, empties_from, is_ask_empty, next_byte}
-use Rattle.kernel_model.specs.Events.{accepted, is_reply, is_map_call, purged_by, written_byte}
+use Rattle.kernel_model.specs.Contents.{byte, empties, is_ask_empty, next_byte}
+use Rattle.kernel_model.specs.Events.{is_reply, is_map_call, purged_by, written_byte}
 use Rattle.kernel_model.specs.State.{state, is_empty}
 use Rattle.kernel_model.proofs.Laws.Answers.{refused, gets, answer-cases, answer-tells, purge-none}
 use Rattle.kernel_model.proofs.Laws.Contents.{byte-more}
 use Rattle.kernel_model.proofs.Laws.Kept.{byte-kept}
-use Rattle.page_store.specs.Contents.{bytes_of, byte_at, overwritten, written_at}
+use Rattle.page_store.specs.Contents.{overwritten, written_at}
 use Rattle.page_store.proofs.ContentsLemmas.{bytes_of-alike, bytes_of-zero, byte_at-bytes_of}
 use Rattle.kernel_shared.specs.Bodies.{content, content_after}
-use Rattle.kernel_shared.specs.Touches.{bytes_left, wasnt_empty, NeedsAtMost, named_number, needed_number}
+use Rattle.kernel_shared.specs.Touches.{bytes_left, wasnt_empty, NeedsAtMost, needed_number}
 use Rattle.kernel_shared.specs.Calls.{Bytes}
 use Rattle.kernel_shared.specs.Steps.{held_after}
 use Rattle.kernel_shared.specs.Untouched.{content-kept, not-touched, asks_if, and_right, IsApart}
@@ -120,5 +119,5 @@ put-held boot seen later who o call reply was now object after m r l h a w n =
     let past = reverse seen in
     let one_more : content later o ≡ content_after (made who call reply ∷ past) o = ap (λ (es : List Entry). content es o) l ∙ ap (λ (es : List Entry). content_after es o) (reverse-append seen (made who call reply ∷ [])) in
     let left : content_after (made who call reply ∷ past) o ≡ bytes_left call reply (content_after past o) =
-      subst (λ (x : Reply). content_after (made who call x ∷ past) o ≡ bytes_left call x (content_after past o)) (sym r) (content-after boot past who o call m) in
+    subst (λ (x : Reply). content_after (made who call x ∷ past) o ≡ bytes_left call x (content_after past o)) (sym r) (content-after boot past who o call m) in
     a ∙ (ap (held_after later) h ∙ ap (λ (c : Bytes). Some (o, c)) (one_more ∙ (left ∙ (ap (bytes_left call reply) (sym w) ∙ sym n))))

@@ -1,6 +1,6 @@
 -- What a call touches is what it needs.
-use Rattle.std.proofs.Common.{◌≡◌, ◌≢◌, ◌⊎◌, ℕ, zero, suc, ◌+◌, ◌<◌, List, [], ◌∷◌, ◌++◌, length, reverse, Option, Some, None, Bool, true, false, IsTrue, refl, sym, ap, ◌∙◌, subst, arith, inl, inr, append-nil}
-use Rattle.std.specs.List.{Contains, range_with_len}
+use Rattle.std.proofs.Common.{◌≡◌, ℕ, zero, suc, ◌<◌, List, [], ◌∷◌, ◌++◌, length, Option, Some, None, Bool, true, false, IsTrue, refl, sym, ap, ◌∙◌, subst, arith}
+use Rattle.std.specs.List.{Contains}
 use Rattle.std.specs.Option.{option_map_or}
 use Rattle.std.proofs.lemmas.Bool.{and_parts}
 use Rattle.std.proofs.lemmas.Bool.Decides.{nat_tests}
@@ -12,7 +12,6 @@ use Rattle.kern_ids.specs.declared.replies.Reply.TheVariants.{Purged}
 use Rattle.kern_ids.specs.StateWord.{decoded}
 use Rattle.kernel_model.specs.System.{System}
 use Rattle.kernel_model.specs.Answers.{answer}
-use Rattle.kernel_model.specs.Choice.{pick, forced}
 use Rattle.kernel_model.specs.Contents.{is_ask_empty}
 use Rattle.kernel_model.specs.Events.{purged_by, task_of}
 use Rattle.kernel_model.specs.Groups.{objects_of}
@@ -25,8 +24,7 @@ use Rattle.kernel_model.proofs.Laws.Purges.{PurgedBy, one, scan_one, force, purg
 use Rattle.kernel_model.proofs.Laws.Queues.{has-range}
 use Rattle.kernel_core.specs.declared.need.Need.{Need}
 use Rattle.kernel_core.specs.declared.need.Need.TheVariants.{Nothing, Bytes as NeedsBytes}
-use Rattle.kernel_core.specs.Need.{named, or_purged, need}
-use Rattle.turn_lock.specs.Rule.{Continues}
+use Rattle.kernel_core.specs.Need.{named, or_purged}
 use Rattle.kernel_shared.specs.Calls.{Bytes}
 use Rattle.kernel_shared.specs.Steps.{MayTouch}
 use Rattle.kernel_shared.specs.Touches.{touched, number_of, named_number, needed_number, objects_in, NeedsAtMost, IsDeclared}

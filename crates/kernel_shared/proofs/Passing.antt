@@ -9,7 +9,7 @@ use Rattle.kern_ids.specs.declared.calls.Call.{Call}
 use Rattle.kern_ids.specs.declared.calls.Call.TheVariants.{Read, Write}
 use Rattle.kern_ids.specs.declared.replies.Reply.{Reply}
 use Rattle.kernel_model.specs.System.{System}
-use Rattle.kernel_model.specs.Answers.{answer, bad_range, out_of_range, refusal, causes}
+use Rattle.kernel_model.specs.Answers.{answer, out_of_range, refusal, causes}
 use Rattle.kernel_model.specs.Contents.{byte}
 use Rattle.kernel_model.specs.Events.{task_of, is_reply}
 use Rattle.kernel_model.specs.Histories.{fits, names_fit, same, is_task_call}
@@ -18,7 +18,7 @@ use Rattle.kernel_model.proofs.Laws.Answers.{refused, gets, answer-cases, first_
 use Rattle.kernel_model.specs.Lists.{some_if}
 use Rattle.kern_ids.specs.declared.replies.Refusal.TheVariants.{Range}
 use Rattle.kernel_core.specs.Kernels.{SeesBytes}
-use Rattle.page_store.specs.Contents.{Contents, nothing, bytes_of, byte_at}
+use Rattle.page_store.specs.Contents.{Contents, nothing, byte_at}
 use Rattle.page_store.proofs.ContentsLemmas.{byte_at-bytes_of, bytes_of-alike, bytes_of-zero}
 use Rattle.kernel_model.proofs.Laws.Contents.{byte-none}
 use Rattle.turn_lock.specs.Histories.{StartsWith}

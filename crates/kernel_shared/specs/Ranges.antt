@@ -1,5 +1,5 @@
 -- What a body has to do with the range of a call.
-use Rattle.std.specs.Prelude.{◌≡◌, ◌+◌, ◌≤◌, ℕ, List, [], length, map, true, false}
+use Rattle.std.specs.Prelude.{◌≡◌, ◌+◌, ◌≤◌, ℕ, List, length, map, true, false}
 use Rattle.std.specs.List.{range_with_len}
 use Rattle.kern_ids.specs.declared.calls.Call.{Call}
 use Rattle.kern_ids.specs.declared.calls.Call.TheVariants.{Write, Read}

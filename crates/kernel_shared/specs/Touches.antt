@@ -5,7 +5,7 @@ use Rattle.kern_ids.specs.declared.entries.Entry.{Entry}
 use Rattle.kern_ids.specs.declared.calls.Call.{Call}
 use Rattle.kern_ids.specs.declared.calls.Call.TheVariants.{Map, Write, SetState}
 use Rattle.kern_ids.specs.declared.replies.Reply.{Reply}
-use Rattle.kern_ids.specs.declared.replies.Reply.TheVariants.{Old, Purged}
+use Rattle.kern_ids.specs.declared.replies.Reply.TheVariants.{Old}
 use Rattle.kern_ids.specs.StateWord.{decoded}
 use Rattle.kernel_model.specs.Contents.{is_ask_empty}
 use Rattle.kernel_model.specs.Events.{is_reply, purged_by}

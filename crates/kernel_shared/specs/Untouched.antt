@@ -1,5 +1,5 @@
 -- An entry leaves the bytes of the objects that it doesn't touch.
-use Rattle.std.proofs.Common.{◌≡◌, ◌≢◌, ℕ, zero, List, [], ◌∷◌, ◌++◌, reverse, Option, Some, None, Bool, true, false, ◌&&◌, ◌||◌, if◌then◌else◌, refl, sym, ap, ◌∙◌, nat_eq, arith}
+use Rattle.std.proofs.Common.{◌≡◌, ◌≢◌, ℕ, List, [], ◌∷◌, ◌++◌, reverse, Option, Some, None, Bool, true, false, ◌&&◌, if◌then◌else◌, refl, sym, ap, ◌∙◌, nat_eq, arith}
 use Rattle.std.specs.List.{Contains}
 use Rattle.std.specs.Option.{option_map_or}
 use Rattle.std.proofs.lemmas.Bool.{ne_eqb}
@@ -11,8 +11,8 @@ use Rattle.kern_ids.specs.declared.calls.Call.TheVariants.{Map, Write, SetState}
 use Rattle.kern_ids.specs.declared.calls.Wish.{Wish}
 use Rattle.kern_ids.specs.declared.calls.Wish.TheVariants.{Nonvolatile, Volatile, Empty}
 use Rattle.kern_ids.specs.StateWord.{decoded}
-use Rattle.kernel_model.specs.Contents.{byte, asks_empty, is_ask_empty}
-use Rattle.kernel_model.specs.Events.{accepted, is_map, is_purge, is_map_call, wish_call, purged_by, is_reply}
+use Rattle.kernel_model.specs.Contents.{byte, is_ask_empty}
+use Rattle.kernel_model.specs.Events.{accepted, is_map_call, wish_call, purged_by}
 use Rattle.kernel_model.specs.Laws.Kinds.{touches_bytes, is_write_call}
 use Rattle.kernel_model.proofs.Laws.Untouched.{byte-untouched}
 use Rattle.kernel_core.specs.declared.need.Need.TheVariants.{Nothing, Bytes}

@@ -33,11 +33,7 @@ pub fn named_number(call: &Call) -> Option<u32>
 }
 
 /// The object whose bytes the call needs now. It is a declared one.
-pub fn needed_number(
-    kernel: &Kernel,
-    who: ThreadId,
-    call: &Call,
-) -> Result<Option<u32>, NoMemory>
+pub fn needed_number(kernel: &Kernel, who: ThreadId, call: &Call) -> Result<Option<u32>, NoMemory>
     requires { IsTrue (fits kernel.now.boot who call.now) }
     ensures needed { IfOk result (λ n. n ≡ needed_number kernel.now.boot (reverse kernel.now.history) who call.now) }
     ensures declared { IfOk result (λ n. IsDeclared kernel.now.boot n) }

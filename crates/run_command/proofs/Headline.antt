@@ -1,5 +1,5 @@
 -- What `run` wrote at status 0.
-use Rattle.std.proofs.Common.{◌≡◌, ◌≢◌, ◌∙◌, ◌≤◌, ◌<◌, ◌+◌, ◌⊎◌, inl, inr, ℕ, List, ◌++◌, length, take, Option, Some, None, Result, Ok, Err, refl, sym, ap, subst, arith}
+use Rattle.std.proofs.Common.{◌≡◌, ◌≢◌, ◌∙◌, ◌≤◌, ◌<◌, ◌+◌, inl, inr, ℕ, List, ◌++◌, length, take, Option, Some, None, Result, Ok, Err, refl, ap, subst, arith}
 use Rattle.std.specs.Io.KnownBytes.{Appends}
 use Rattle.std.proofs.lemmas.List.{length-take-le}
 use Rattle.kern_ids.specs.declared.faults.Why.{Why}
@@ -9,7 +9,7 @@ use Rattle.scenario_text.specs.Text.{scenario_text}
 use Rattle.scenario_text.proofs.RoundTrip.{scenario_of-takes}
 use Rattle.history_text.specs.History.{history_text}
 use Rattle.commands.specs.Outcome.{Due}
-use Rattle.run_command.specs.Outcome.{run_limit, IsRunAnswer, IsRunOf}
+use Rattle.run_command.specs.Outcome.{run_limit, IsRunAnswer}
 use Rattle.run_command.specs.Calls.{WritesRun}
 use Rattle.run_command.specs.Top.{WritesHistory}
 

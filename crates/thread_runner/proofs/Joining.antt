@@ -1,13 +1,12 @@
 -- Passes that are joined, and the history of all.
-use Rattle.std.proofs.Common.{◌≡◌, ℕ, zero, suc, ◌+◌, ◌<◌, ◌≤◌, Bool, true, false, not, ◌&&◌, ◌||◌, cond, List, [], ◌∷◌, ◌++◌, length, map, reverse, Option, Some, None, IsTrue, refl, sym, ap, ap₂, ◌∙◌, subst, arith, eqb, inl, inr}
-use Rattle.std.specs.Prelude.{is_some, nat_lt, nat_eq, if◌then◌else◌, option_to_list}
+use Rattle.std.proofs.Common.{◌≡◌, ℕ, ◌+◌, ◌<◌, Bool, true, false, not, ◌&&◌, ◌||◌, cond, List, [], ◌∷◌, ◌++◌, length, map, reverse, Some, IsTrue, refl, sym, ap, ◌∙◌, subst, arith, eqb, inl, inr}
+use Rattle.std.specs.Prelude.{is_some, nat_lt, if◌then◌else◌}
 use Rattle.std.specs.List.{All, AllByRecursion, IsDistinct, list_any}
 use Rattle.std.proofs.lemmas.Bool.{and_parts, false≢true, ne_eqb}
 use Rattle.std.proofs.lemmas.Bool.Decides.{nat_tests, eqb_tells}
 use Rattle.std.proofs.lemmas.List.{length-append, reverse-append, reverse-reverse}
 use Rattle.std.proofs.lemmas.List.Elements.{All-pop}
 use Rattle.kern_ids.specs.declared.entries.Entry.{Entry}
-use Rattle.kern_ids.specs.declared.calls.Call.{Call}
 use Rattle.kernel_model.specs.System.{System}
 use Rattle.kernel_model.specs.Events.{task_of}
 use Rattle.kernel_model.specs.Histories.{fits, names_fit, same, is_task_call, Legal, IsLegal}
@@ -17,7 +16,7 @@ use Rattle.turn_lock.specs.Passes.{gathered_by, numbers_of, weight_of}
 use Rattle.turn_lock.proofs.Ends.{each_key}
 use Rattle.kernel_shared.specs.Calls.{KernelTable, KernelPass, IsIdleOf, pass_count}
 use Rattle.thread_runner.specs.declared.threads.Finished.{Finished}
-use Rattle.thread_runner.specs.Runs.{IsWhole, calls_of, of_thread}
+use Rattle.thread_runner.specs.Runs.{IsWhole, calls_of}
 use Rattle.thread_runner.specs.Threads.{IsFinished, IsScripted, IsJoined}
 
 -- the last of a list is taken out
@@ -94,7 +93,7 @@ under t s (g ∷ gs) n h k = elim (eqb_tells g.0 n) [
       ap (λ (b : Bool). calls_of (cond b g.1 (list_in n gs))) here.0 ∙ (h.0.1 ∙ ap (script s) e)
   | inr there ↦
       let rest : list_any (eqb n) (map (λ (x : ℕ × List Entry). x.0) gs) ≡ true =
-        sym (ap (λ (b : Bool). b || list_any (eqb n) (map (λ (x : ℕ × List Entry). x.0) gs)) (ne_eqb n g.0 (λ q. there.1 (sym q)))) ∙ k in
+      sym (ap (λ (b : Bool). b || list_any (eqb n) (map (λ (x : ℕ × List Entry). x.0) gs)) (ne_eqb n g.0 (λ q. there.1 (sym q)))) ∙ k in
       ap (λ (b : Bool). calls_of (cond b g.1 (list_in n gs))) there.0 ∙ under t s gs n h.1 rest
 ]
 
@@ -109,6 +108,6 @@ whole-history s t p h count v base passes all j legal lists =
     record {
       declared = legal_declared s.boot (length s.scripts) h (sym v.scripts) (subst (λ b. Legal b h) base legal);
       scripts = λ n l.
-        let m : n < t.passes = subst (λ (k : ℕ). n < k) (sym passes) (few_passes n s.boot.sides (let e = v.scripts in omega arith)) in
-        ap calls_of (lists n m) ∙ under t s (gathered_by p) n j.scripted (each_key t.passes (gathered_by p) below j.distinct (j.weight ∙ all) n m);
+          let m : n < t.passes = subst (λ (k : ℕ). n < k) (sym passes) (few_passes n s.boot.sides (let e = v.scripts in omega arith)) in
+          ap calls_of (lists n m) ∙ under t s (gathered_by p) n j.scripted (each_key t.passes (gathered_by p) below j.distinct (j.weight ∙ all) n m);
     }

@@ -1,4 +1,4 @@
-use Rattle.std.proofs.Common.{◌≡◌, sym, ◌∙◌, reverse}
+use Rattle.std.proofs.Common.{sym, ◌∙◌, reverse}
 use Rattle.kernel_core.proofs.Replies.{refused-answer, read-answer}
 use Rattle.kernel_core.proofs.kernel.reply_to.Goals as goal
 

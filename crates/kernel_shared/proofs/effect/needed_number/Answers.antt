@@ -1,4 +1,4 @@
-use Rattle.std.proofs.Common.{◌≡◌, ℕ, ◌<◌, length, reverse, sym, ◌∙◌, subst}
+use Rattle.std.proofs.Common.{ℕ, ◌<◌, length, reverse, sym, ◌∙◌, subst}
 use Rattle.kernel_shared.proofs.Needs.{needed-declared}
 use Rattle.kernel_shared.specs.Touches.{number_of, IsDeclared}
 use Rattle.kernel_shared.proofs.effect.needed_number.Goals as goal

@@ -1,4 +1,3 @@
-use Rattle.std.proofs.Common.{◌≡◌, rules}
 use Rattle.kernel_shared.proofs.Passing.{same-on}
 use Rattle.thread_runner.proofs.Runs.{on-err, ran-more, ran-some}
 use Rattle.thread_runner.proofs.script.run_calls.Goals as goal

@@ -1,4 +1,4 @@
-use Rattle.std.proofs.Common.{◌≡◌, ◌+◌, ◌∷◌, [], ◌++◌, true, length, rules, arith}
+use Rattle.std.proofs.Common.{◌≡◌, ◌+◌, ◌∷◌, [], ◌++◌, rules, arith}
 use Rattle.turn_lock.specs.Passes.{weight_of}
 use Rattle.thread_runner.specs.Threads.{IsFinished}
 use Rattle.thread_runner.proofs.Joining.{popped, popped-length, not-false, alone-distinct, alone-weight, alone-scripted, joined-idle, joined-scripted}

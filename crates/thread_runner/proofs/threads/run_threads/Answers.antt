@@ -1,9 +1,7 @@
-use Rattle.std.proofs.Common.{◌≡◌, ℕ, length, sym, ◌∙◌, ap, subst, rules}
+use Rattle.std.proofs.Common.{◌≡◌, length, sym, ◌∙◌, subst, rules}
 use Rattle.std.proofs.lemmas.List.Elements.{All-from_recursion}
 use Rattle.turn_lock.specs.Passes.{IsNewPassOf}
-use Rattle.kernel_model.specs.Histories.{Legal}
 use Rattle.kernel_shared.specs.Calls.{KernelPass, pass_count}
-use Rattle.thread_runner.specs.Threads.{IsJoined}
 use Rattle.thread_runner.proofs.Joining.{whole-history}
 use Rattle.thread_runner.proofs.threads.run_threads.Goals as goal
 

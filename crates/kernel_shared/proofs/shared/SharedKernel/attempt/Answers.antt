@@ -1,6 +1,5 @@
-use Rattle.std.proofs.Common.{◌≡◌, ℕ, List, [], ◌∷◌, ◌++◌, reverse, Some, refl, sym, ap, ◌∙◌, subst, rules}
+use Rattle.std.proofs.Common.{◌≡◌, [], ◌∷◌, ◌++◌, reverse, Some, ap, ◌∙◌, subst, rules}
 use Rattle.turn_lock.specs.Histories.{StartsWith}
-use Rattle.kernel_shared.specs.Bodies.{content}
 use Rattle.kernel_shared.specs.Calls.{entry_of}
 use Rattle.kernel_shared.specs.Touches.{bytes_left, NeedsAtMost, needed_number}
 use Rattle.kernel_shared.specs.Ranges.{IsWriteInRange, IsSeenOf}

@@ -1,4 +1,4 @@
-use Rattle.std.proofs.Common.{◌≡◌, ℕ, refl, sym, ap, ◌∙◌, subst, IsTrue, Result, Ok, Err, OnErr}
+use Rattle.std.proofs.Common.{ℕ, refl, sym, ◌∙◌, subst, IsTrue, Result, Ok, Err, OnErr}
 use Rattle.kernel_model.specs.Histories.{fits}
 use Rattle.kernel_shared.specs.Steps.{IsWanted, IsTried, IsLooked}
 use Rattle.kernel_shared.proofs.Passing.{same-pass, same-on, made-on, wanted-first}

@@ -1,4 +1,4 @@
-use Rattle.std.proofs.Common.{◌≡◌, ℕ, List, [], ◌∷◌, ◌++◌, reverse, refl, sym, subst, inr, rules}
+use Rattle.std.proofs.Common.{◌≡◌, [], ◌∷◌, ◌++◌, reverse, refl, subst, inr, rules}
 use Rattle.std.specs.List.{Contains}
 use Rattle.kern_ids.specs.declared.entries.Entry.{Entry}
 use Rattle.kern_ids.specs.declared.replies.Reply.{Reply}
@@ -13,5 +13,12 @@ leave-requires-in-Ok-clause-entries g c =
     let e : Entry = record { who = p.number; call = c.args.call.now; reply = c.in-Ok.reply } in
     let is : c.value-in-Ok.result.now.kernel.history ≡ p.seen ++ e ∷ [] = search rules in
     let r : c.in-Ok.reply ≡ answer c.args.self.now.base (reverse p.seen) p.number c.args.call.now = search rules in
-    inr (e, is, (refl, λ i k. needed-touches c.args.self.now.base (reverse p.seen) p.number c.args.call.now p.object c.requires.touches i
-      (subst (λ (x : Reply). Contains (touched (record { who = p.number; call = c.args.call.now; reply = x })) i) r k)))
+    inr (
+      e,
+      is,
+      (
+        refl,
+        λ i k. needed-touches c.args.self.now.base (reverse p.seen) p.number c.args.call.now p.object c.requires.touches i
+            (subst (λ (x : Reply). Contains (touched (record { who = p.number; call = c.args.call.now; reply = x })) i) r k),
+      ),
+    )

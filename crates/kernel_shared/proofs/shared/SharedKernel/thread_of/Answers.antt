@@ -1,4 +1,4 @@
-use Rattle.std.proofs.Common.{◌≡◌, ℕ, ◌<◌, sym, subst}
+use Rattle.std.proofs.Common.{ℕ, ◌<◌, sym, subst}
 use Rattle.kernel_shared.proofs.Passing.{who-below}
 use Rattle.kernel_shared.proofs.shared.SharedKernel.thread_of.Goals as goal
 
