@@ -5,5 +5,6 @@
 
 mod effect;
 pub mod gate;
+mod methods;
 pub mod shared;
 pub mod value;
