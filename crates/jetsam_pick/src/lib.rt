@@ -15,8 +15,8 @@ use task_ledger::Ledgers;
 use task_ledger::account::Over;
 use verdict::JetsamVerdict;
 
-/// What jetsam does: the first of these that applies. The least of some tasks is the one in the lowest band, and
-/// in it the one that comes first.
+/// What jetsam does, where the bands hold exactly the live tasks: the first of these that applies. The least of
+/// some tasks is the one in the lowest band, and in it the one that comes first.
 ///
 /// - Kill, for its limit, the least live task that is over a fatal limit, internal or not.
 /// - Quiet where at least `critical` frames are free.
