@@ -1,9 +1,22 @@
+ghost use Rattle.std.specs.Prelude.{◌≡◌};
+ghost use Rattle.kernel_shared.specs.Calls.{IsIdleOf};
+
 use crate::schedule::{Hold, Moment, Schedule};
 use edge::memory_sink::MemSink;
 use edge::memory_source::MemSource;
 use edge::words::Words;
-use kernel_shared::gate::Point;
+use kern_ids::calls::{Call, State};
+use kern_ids::entries::NoMemory;
+use kern_ids::ids::{ObjId, ThreadId};
+use kern_ids::lines::ByteLine;
+use kern_ids::replies::Reply;
+use kernel_model::boot::Boot;
+use kernel_model::scenario::Scenario;
+use kernel_shared::gate::{NoGate, Point};
+use kernel_shared::shared::{Pass, SharedKernel};
 use run_command::jetlab_top;
+use scenario_text::read_scenario;
+use std::alloc::Global;
 use std::process::Abort;
 use std::sync::Wait;
 use std::test::Fail;
@@ -124,4 +137,111 @@ fn kill_before_the_turn(rt: HostRuntime) -> Result<(), Fail> {
             b"history\n0 map 0 = mapped\n1 jetsam = killed 0 pressure\n0 write 0 0 61 = refused dead\ndone 3\n",
         ],
     )
+}
+
+// A scenario that is read without a fault.
+fn scenario<R: Abort>(rt: &R, alloc: Global, text: &[u8]) -> Result<Scenario, NoMemory> {
+    assert!(rt; text.len() < 1 << 31);
+    match read_scenario(alloc, text) {
+        Ok(s) => Ok(s),
+        Err(_) => Err(NoMemory),
+    }
+}
+
+// A call of one of two threads, and the reply that is wanted.
+#[derive(Clone, Copy)]
+struct Step {
+    scans: bool,
+    call: Call,
+    reply: Reply,
+}
+
+// Makes a call that fits.
+fn made<R: Wait + Abort>(
+    rt: &R,
+    kernel: &SharedKernel,
+    boot: &Boot,
+    pass: &mut Pass,
+    call: &Call,
+) -> Result<Reply, NoMemory>
+    requires kernel { kernel.now.base ≡ boot.now }
+    requires idle { IsIdleOf kernel.now pass.old }
+    ensures { IsIdleOf kernel.now pass.new }
+{
+    let who = ThreadId::new(pass.number()).expect(rt, "a thread");
+    assert!(rt; boot.fits(who, call));
+    kernel.call(rt, &NoGate, pass, *call)
+}
+
+// Makes the calls, each with its pass.
+fn play<R: Wait + Abort>(
+    rt: &R,
+    kernel: &SharedKernel,
+    boot: &Boot,
+    owner: &mut Pass,
+    scanner: &mut Pass,
+    steps: &[Step],
+) -> Result<(), NoMemory>
+    requires kernel { kernel.now.base ≡ boot.now }
+    requires owner { IsIdleOf kernel.now owner.old }
+    requires scanner { IsIdleOf kernel.now scanner.old }
+{
+    for step in steps {
+        let reply = if step.scans {
+            made(rt, kernel, boot, scanner, &step.call)?
+        } else {
+            made(rt, kernel, boot, owner, &step.call)?
+        };
+        assert!(rt; reply == step.reply);
+    }
+    Ok(())
+}
+
+fn by(scans: bool, call: Call, reply: Reply) -> Step {
+    Step { scans, call, reply }
+}
+
+// An object is written, made volatile, purged, and read.
+fn purged_while_volatile(obj: ObjId, bytes: ByteLine, zeros: ByteLine) -> [Step; 6] {
+    [
+        by(false, Call::Map { obj }, Reply::Mapped),
+        by(false, Call::Write { obj, off: 0, bytes }, Reply::Wrote),
+        by(
+            false,
+            Call::SetState { obj, word: 1 },
+            Reply::Old(State::Nonvolatile),
+        ),
+        by(true, Call::Forced, Reply::Purged(obj)),
+        by(
+            false,
+            Call::SetState { obj, word: 0 },
+            Reply::Old(State::Empty),
+        ),
+        by(
+            false,
+            Call::Read {
+                obj,
+                off: 0,
+                len: 3,
+            },
+            Reply::Bytes(zeros),
+        ),
+    ]
+}
+
+// One thread has both passes: an object is purged while it is volatile, and is empty afterwards.
+#[test]
+fn two_passes_of_one_thread(rt: HostRuntime) -> Result<(), Fail> {
+    let alloc = rt.alloc();
+    let s = scenario(&rt, alloc, PURGE)?;
+    let (kernel, mut passes) = SharedKernel::boot(alloc, s.boot())?;
+    let (Some(mut scanner), Some(mut owner)) = (passes.take_last(), passes.take_last()) else {
+        return Ok(());
+    };
+    let obj = ObjId::new(0).expect(&rt, "an object");
+    let bytes = ByteLine::from_slice(b"abc").expect(&rt, "a line");
+    let zeros = ByteLine::from_slice(&[0; 3]).expect(&rt, "a line");
+    let steps = purged_while_volatile(obj, bytes, zeros);
+    play(&rt, &kernel, s.boot(), &mut owner, &mut scanner, &steps)?;
+    Ok(())
 }
