@@ -1,0 +1,10 @@
+//! The text of entries and histories, read. An entry has exactly one text, and reading takes that text and
+//! no other.
+#![tactic(auto)]
+
+mod entry;
+mod kind;
+mod replies;
+mod sign;
+
+pub use entry::{TextFault, read_entry};
