@@ -5,3 +5,6 @@ pub mod ReplyAgain
 pub mod Signs
 pub mod EntryLaws
 pub mod Sound
+pub mod LineLemmas
+pub mod HistoryLaws
+pub mod HistoryRead

@@ -3,8 +3,10 @@
 #![tactic(auto)]
 
 mod entry;
+mod history;
 mod kind;
 mod replies;
 mod sign;
 
 pub use entry::{TextFault, read_entry};
+pub use history::read_history;
