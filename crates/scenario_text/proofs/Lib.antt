@@ -12,3 +12,4 @@ pub mod Written
 pub mod Clean
 pub mod RoundTrip
 pub mod TypeLaws
+pub mod FrontLaws

@@ -12,4 +12,4 @@ mod stage;
 mod writing;
 
 pub use pieces::ScenarioPieces;
-pub use scan::read_scenario;
+pub use scan::{read_front, read_scenario};
