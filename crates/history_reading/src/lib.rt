@@ -7,6 +7,8 @@ mod history;
 mod kind;
 mod replies;
 mod sign;
+#[cfg(test)]
+mod tests;
 
 pub use entry::{TextFault, read_entry};
 pub use history::read_history;

@@ -13,3 +13,4 @@ pub mod Clean
 pub mod RoundTrip
 pub mod TypeLaws
 pub mod FrontLaws
+pub mod Within

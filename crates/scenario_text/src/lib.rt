@@ -9,6 +9,8 @@ mod pieces;
 mod place;
 mod scan;
 mod stage;
+#[cfg(test)]
+mod tests;
 mod writing;
 
 pub use pieces::ScenarioPieces;

@@ -1,6 +1,6 @@
 //! Reading a scenario line by line.
 
-ghost use Rattle.std.specs.Prelude.{◌≡◌, ◌≤◌, ◌<◌, ◌∷◌, ◌+◌, ◌++◌, ◌^◌, [], ℕ, List, length, take, MatchResult, OnOk, IfOk, Ok, Err, is_some, slice_index_or};
+ghost use Rattle.std.specs.Prelude.{◌≡◌, ◌≢◌, ◌≤◌, ◌<◌, ◌∷◌, ◌+◌, ◌++◌, ◌^◌, [], ℕ, List, length, take, MatchResult, OnOk, IfOk, Ok, Err, is_some, slice_index_or};
 ghost use Rattle.line_text.specs.Cut.{words_of, lines_of};
 ghost use Rattle.kernel_model.specs.Scenario.{Plan};
 ghost use Rattle.scenario_text.specs.Grammar.{headed, reading, head_line, system_line, is_ended, order_words, script_line, later_line, declaring_line, line_at, turn, last_thread, start, step, front_from, front_of, scenario_of};
@@ -360,12 +360,14 @@ pub fn read_scenario(alloc: Global, text: &[u8]) -> Result<Scenario, ReadFault>
 }
 
 /// The scenario that a text begins with, and how many bytes and lines of the text it takes; or the text's first
-/// fault, which is never that bytes follow. Fewer than 2^31 bytes. A scenario is read exactly where the bytes
+/// fault. Fewer than 2^31 bytes. A scenario is read exactly where the bytes
 /// begin with its text, unless memory runs out.
 pub fn read_front(alloc: Global, text: &[u8]) -> Result<(Scenario, usize, u32), ReadFault>
     requires { length text.now < 2 ^ 31 }
     // Which scenario, how many bytes and lines, or which fault it is.
     ensures exact { FrontGives result (front_taken text.now) }
+    // It is never that bytes follow.
+    ensures within { (line : ℕ) → result ≢ Err (ReadFault.Bad line Why.AfterEnd) }
     // The bytes that were taken are the text of that scenario.
     ensures written { IfOk result (λ r. take r.1 text.now ≡ scenario_text r.0) }
     // They are so many bytes,

@@ -1,5 +1,6 @@
 use Rattle.std.proofs.Common.{length, ◌-◌, Ok, Err}
 use Rattle.scenario_text.proofs.FrontLaws.{front-takes, taken-is, taken-within, taken-written, taken-again, taken-fails}
+use Rattle.scenario_text.proofs.Within.{front-never}
 use Rattle.scenario_text.proofs.scan.read_front.Goals as goal
 
 pub returns-in-Err-clause-exact : goal.returns-in-Err-clause-exact
@@ -31,3 +32,6 @@ returns-clause-valid c = let r = c.in-Ok.parts in let t = front-takes c.args.tex
 
 pub returns-clause-again : goal.returns-clause-again
 returns-clause-again c = let r = c.in-Ok.parts in λ s rest h e. taken-again (Ok (r.0, length c.args.text.now - length r.1.now, r.2 - 1)) c.args.text.now rest s (taken-is c.args.text.now r.1.now r.0 r.2 c.in-Ok.ensures) h e
+
+pub returns-in-Err-clause-within : goal.returns-in-Err-clause-within
+returns-in-Err-clause-within c = λ line e. front-never (Err c.in-Err.fault) c.args.text.now line (taken-fails c.in-Err.fault c.args.text.now c.in-Err.ensures) e
