@@ -5,6 +5,7 @@
 mod entry;
 mod history;
 mod kind;
+pub mod law;
 mod replies;
 mod sign;
 #[cfg(test)]
