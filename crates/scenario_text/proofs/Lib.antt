@@ -12,3 +12,5 @@ pub mod Written
 pub mod Clean
 pub mod RoundTrip
 pub mod TypeLaws
+pub mod FrontLaws
+pub mod Within

@@ -52,7 +52,7 @@ step-open (reading place.Ordered s) g l e = refl
 step-open (reading place.Ended s) g [] e = absurd cc
 step-open (reading place.Ended s) g (w ∷ ws) e = absurd cc
 
-open_or : (f : Front) → (is_open f ≡ true) ⊎ ((s : Plan) × (f ≡ reading place.Ended s))
+pub open_or : (f : Front) → (is_open f ≡ true) ⊎ ((s : Plan) × (f ≡ reading place.Ended s))
 open_or start = inl refl
 open_or (headed first) = inl refl
 open_or (reading place.Tasks s) = inl refl
@@ -61,7 +61,7 @@ open_or (reading place.Script s) = inl refl
 open_or (reading place.Ordered s) = inl refl
 open_or (reading place.Ended s) = inr (s, refl)
 
-no_words : (f g : Front) → step f [] ≡ Ok g → ⊥
+pub no_words : (f g : Front) → step f [] ≡ Ok g → ⊥
 unfolding step
 no_words f g e = absurd cc
 
@@ -98,17 +98,17 @@ alone_takes t s [] [] n e = (refl, cc)
 alone_takes t s [] (next ∷ lines) n e = absurd cc
 alone_takes t s (b ∷ bs) lines n e = absurd cc
 
-go_takes : (said : Result Front Why) (n : ℕ) (lines : List (List ℕ)) (r : Read) → go said n lines ≡ Ok r → (g : Front) × (said ≡ Ok g) × (front_from g (n + 1) lines ≡ Ok r)
+pub go_takes : (said : Result Front Why) (n : ℕ) (lines : List (List ℕ)) (r : Read) → go said n lines ≡ Ok r → (g : Front) × (said ≡ Ok g) × (front_from g (n + 1) lines ≡ Ok r)
 go_takes (Ok g) n lines r e = (g, refl, e)
 go_takes (Err d) n lines r e = absurd cc
 
 abbrev done : Read → Result Read (ℕ × Why)
 done x = Ok x
 
-read_is : (x y : Read) → done x ≡ done y → x ≡ y
+pub read_is : (x y : Read) → done x ≡ done y → x ≡ y
 read_is x y e = cc
 
-none_read : (f : Front) (n : ℕ) (r : Read) → front_from f n [] ≡ Ok r → ⊥
+pub none_read : (f : Front) (n : ℕ) (r : Read) → front_from f n [] ≡ Ok r → ⊥
 unfolding front_from
 none_read f n r e = absurd cc
 

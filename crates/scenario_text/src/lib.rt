@@ -9,7 +9,9 @@ mod pieces;
 mod place;
 mod scan;
 mod stage;
+#[cfg(test)]
+mod tests;
 mod writing;
 
 pub use pieces::ScenarioPieces;
-pub use scan::read_scenario;
+pub use scan::{read_front, read_scenario};

@@ -1,12 +1,13 @@
 //! Reading a scenario line by line.
 
-ghost use Rattle.std.specs.Prelude.{◌≡◌, ◌≤◌, ◌<◌, ◌∷◌, ◌+◌, ◌^◌, [], ℕ, List, length, MatchResult, OnOk, IfOk, Ok, Err, is_some, slice_index_or};
+ghost use Rattle.std.specs.Prelude.{◌≡◌, ◌≢◌, ◌≤◌, ◌<◌, ◌∷◌, ◌+◌, ◌++◌, ◌^◌, [], ℕ, List, length, take, MatchResult, OnOk, IfOk, Ok, Err, is_some, slice_index_or};
 ghost use Rattle.line_text.specs.Cut.{words_of, lines_of};
 ghost use Rattle.kernel_model.specs.Scenario.{Plan};
 ghost use Rattle.scenario_text.specs.Grammar.{headed, reading, head_line, system_line, is_ended, order_words, script_line, later_line, declaring_line, line_at, turn, last_thread, start, step, front_from, front_of, scenario_of};
 ghost use Rattle.kernel_model.specs.Events.{task_of_side};
 ghost use Rattle.kernel_model.specs.declared.boot.Side.TheVariants.{Kernel};
-ghost use Rattle.scenario_text.specs.Text.{scenario_text, HasText};
+ghost use Rattle.scenario_text.specs.Text.{scenario_text, scenario_lines, HasText};
+ghost use Rattle.scenario_text.specs.Fronts.{FrontGives, front_taken};
 ghost use Rattle.scenario_text.specs.Gives.{StepGives, OrderGives, ReadGives, ReadFails, InScript};
 
 use crate::declarations::{head_line, object_line, system_line, task_line, thread_line};
@@ -356,4 +357,31 @@ pub fn read_scenario(alloc: Global, text: &[u8]) -> Result<Scenario, ReadFault>
     ensures again { (s : Plan) → HasText s → text.now ≡ scenario_text s → ReadGives result (Ok s) }
 {
     read_whole(alloc, text)
+}
+
+/// The scenario that a text begins with, and how many bytes and lines of the text it takes; or the text's first
+/// fault. Fewer than 2^31 bytes. A scenario is read exactly where the bytes
+/// begin with its text, unless memory runs out.
+pub fn read_front(alloc: Global, text: &[u8]) -> Result<(Scenario, usize, u32), ReadFault>
+    requires { length text.now < 2 ^ 31 }
+    // Which scenario, how many bytes and lines, or which fault it is.
+    ensures exact { FrontGives result (front_taken text.now) }
+    // It is never that bytes follow.
+    ensures within { (line : ℕ) → result ≢ Err (ReadFault.Bad line Why.AfterEnd) }
+    // The bytes that were taken are the text of that scenario.
+    ensures written { IfOk result (λ r. take r.1 text.now ≡ scenario_text r.0) }
+    // They are so many bytes,
+    ensures bytes { IfOk result (λ r. r.1 ≡ length (scenario_text r.0)) }
+    // and so many lines.
+    ensures lines { IfOk result (λ r. r.2 ≡ length (scenario_lines r.0)) }
+    // A scenario that was read can be written.
+    ensures valid { IfOk result (λ r. HasText r.0) }
+    // A scenario whose text the bytes begin with is read.
+    ensures again { (s : Plan) (rest : List ℕ) → HasText s → text.now ≡ scenario_text s ++ rest → FrontGives result (Ok (s, length (scenario_text s), length (scenario_lines s))) }
+{
+    let (scenario, rest, line) = match scan(alloc, text) {
+        Ok(parts) => parts,
+        Err(fault) => return Err(fault),
+    };
+    Ok((scenario, text.len() - rest.len(), line - 1))
 }

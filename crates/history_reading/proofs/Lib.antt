@@ -1,0 +1,10 @@
+pub mod ReadLemmas
+pub mod Found
+pub mod ReplyTakes
+pub mod ReplyAgain
+pub mod Signs
+pub mod EntryLaws
+pub mod Sound
+pub mod LineLemmas
+pub mod HistoryLaws
+pub mod HistoryRead
