@@ -1,0 +1,101 @@
+-- The calls that only ask: what they get, and that the tables stay as they have to be.
+use Rattle.std.proofs.Common.{◌≡◌, ℕ, ◌+◌, ◌-◌, ◌≤◌, List, [], ◌∷◌, length, map, Option, Some, None, refl, sym, ap, ap₂, ◌∙◌, subst, Bool, true, false, ◌&&◌, nat_lt}
+use Rattle.std.specs.Prelude.{IsTrue, is_some}
+use Rattle.std.proofs.lemmas.Bool.{true≢false, and_parts}
+use Rattle.std.proofs.lemmas.List.{length-map}
+use Rattle.kern_ids.specs.declared.entries.Entry.{Entry}
+use Rattle.kern_ids.specs.declared.calls.Call.{Call}
+use Rattle.kern_ids.specs.declared.calls.Call.TheVariants.{Info, Purgeables}
+use Rattle.kern_ids.specs.declared.calls.Queue.{Queue}
+use Rattle.kern_ids.specs.declared.calls.Queue.TheVariants.{Obsolete, Lifo, Fifo}
+use Rattle.kern_ids.specs.declared.replies.Reply.{Reply}
+use Rattle.kern_ids.specs.declared.replies.Reply.TheVariants.{Frames, Tokens}
+use Rattle.kern_ids.specs.declared.replies.QueueCounts.{QueueCounts}
+use Rattle.kern_ids.specs.declared.replies.TokenCounts.{TokenCounts}
+use Rattle.kernel_model.specs.System.{System}
+use Rattle.kernel_model.specs.Events.{task_of}
+use Rattle.kernel_model.specs.Pages.{active_pages, inactive_pages, stored_pages, is_active, is_inactive, is_stored, free, left, entered}
+use Rattle.kernel_model.specs.Deadlines.{deadlines, of_queue}
+use Rattle.kernel_model.specs.Answers.{answer, refusal, frames_reply, tokens_reply, queue_counts}
+use Rattle.kernel_model.specs.Histories.{fits, same, is_task_call, names_fit}
+use Rattle.kernel_model.specs.Laws.Kinds.{is_quiet}
+use Rattle.kernel_model.proofs.Laws.Kept.{quiet-unchanged}
+use Rattle.page_queues.specs.Pages.{Pages, page_of, active as active_keys, inactive as inactive_keys, stored as stored_keys, free as free_in}
+use Rattle.ripen_advance.specs.Queues.{dues_in}
+use Rattle.token_list.specs.Dues.{counts_of}
+use Rattle.kernel_tables.specs.Values.{TableValues, entry_of}
+use Rattle.kernel_tables.specs.Stands.{Stands}
+use Rattle.kernel_tables.proofs.Counting.{pages-count}
+use Rattle.kernel_tables.proofs.Dues.{counts-dues}
+use Rattle.kernel_tables.proofs.Quiet.{unchanged-stands}
+
+-- a call of kernel threads has no task
+no_task : {A : Type 0} (o : Option A) → same false (is_some o) ≡ true → o ≡ None
+no_task (Some x) h = absurd (true≢false (sym h))
+no_task None h = refl
+
+pub of_kernel : (boot : System) (who : ℕ) (call : Call) → is_task_call call ≡ false → IsTrue (fits boot who call) → task_of boot who ≡ None
+of_kernel boot who call k f =
+    let parts = and_parts (nat_lt who (length boot.sides) && same (is_task_call call) (is_some (task_of boot who))) (names_fit boot call) f in
+    let side = and_parts (nat_lt who (length boot.sides)) (same (is_task_call call) (is_some (task_of boot who))) parts.0 in
+    no_task (task_of boot who) (subst (λ b. same b (is_some (task_of boot who)) ≡ true) k side.1)
+
+-- an answered call that changes nothing
+pub asked-stands : (tables : TableValues) (past : List Entry) (who : ℕ) (call : Call) (reply : Reply) → IsTrue (fits tables.boot who call) → reply ≡ answer tables.boot past who call → is_quiet (entry_of who call reply) ≡ true → Stands tables past → Stands tables (entry_of who call reply ∷ past)
+asked-stands tables past who call reply f answered quiet s =
+    unchanged-stands tables (entry_of who call reply) past (quiet-unchanged tables.boot (entry_of who call reply) past quiet) (f, answered, s.legal) s
+
+-- Info
+info-answer : (boot : System) (past : List Entry) (who : ℕ) → task_of boot who ≡ None → answer boot past who Info ≡ frames_reply boot past
+unfolding answer refusal
+info-answer boot past who none = rw none refl
+
+active-are : (tables : TableValues) (past : List Entry) → Stands tables past → length (active_keys tables.pages) ≡ active_pages tables.boot past
+active-are tables past s = sym (length-map (active_keys tables.pages) page_of) ∙ sym (pages-count tables.boot past is_active _ s.active_order)
+
+pub inactive-are : (tables : TableValues) (past : List Entry) → Stands tables past → length (inactive_keys tables.pages) ≡ inactive_pages tables.boot past
+inactive-are tables past s = sym (length-map (inactive_keys tables.pages) page_of) ∙ sym (pages-count tables.boot past is_inactive _ s.inactive_order)
+
+stored-are : (tables : TableValues) (past : List Entry) → Stands tables past → length (stored_keys tables.pages) ≡ stored_pages tables.boot past
+stored-are tables past s = sym (length-map (stored_keys tables.pages) page_of) ∙ sym (pages-count tables.boot past is_stored _ s.stored_order)
+
+abbrev frames_told : ℕ → ℕ → ℕ → ℕ → ℕ → Reply
+frames_told f a i s e = Frames (record { free = f - (a + i); active = a; inactive = i; stored = s; entered = e; left = e - i })
+
+info-told : (tables : TableValues) (past : List Entry) → Stands tables past → frames_told tables.pages.frames (length (active_keys tables.pages)) (length (inactive_keys tables.pages)) (length (stored_keys tables.pages)) tables.entered ≡ frames_reply tables.boot past
+unfolding free left
+info-told tables past s =
+    let boot = tables.boot in
+    ap₂ (λ a i. frames_told tables.pages.frames a i (length (stored_keys tables.pages)) tables.entered) (active-are tables past s) (inactive-are tables past s)
+    ∙ ap₂ (λ n e. frames_told tables.pages.frames (active_pages boot past) (inactive_pages boot past) n e) (stored-are tables past s) s.entered
+    ∙ ap (λ f. frames_told f (active_pages boot past) (inactive_pages boot past) (stored_pages boot past) (entered past)) s.frames
+
+pub info-is : (tables : TableValues) (past : List Entry) (who : ℕ) → IsTrue (fits tables.boot who Info) → Stands tables past → frames_told tables.pages.frames (length (active_keys tables.pages)) (length (inactive_keys tables.pages)) (length (stored_keys tables.pages)) tables.entered ≡ answer tables.boot past who Info
+info-is tables past who f s = info-told tables past s ∙ sym (info-answer tables.boot past who (of_kernel tables.boot who Info refl f))
+
+pub info-stands : (tables : TableValues) (past : List Entry) (who : ℕ) (reply : Reply) → IsTrue (fits tables.boot who Info) → reply ≡ answer tables.boot past who Info → Stands tables past → Stands tables (entry_of who Info reply ∷ past)
+info-stands tables past who reply f answered s =
+    let told = answered ∙ info-answer tables.boot past who (of_kernel tables.boot who Info refl f) in
+    asked-stands tables past who Info reply f answered (subst (λ r. is_quiet (entry_of who Info r) ≡ true) (sym told) refl) s
+
+-- Purgeables
+purgeables-answer : (boot : System) (past : List Entry) (who : ℕ) → task_of boot who ≡ None → answer boot past who Purgeables ≡ tokens_reply boot past
+unfolding answer refusal
+purgeables-answer boot past who none = rw none refl
+
+queue-told : (tables : TableValues) (past : List Entry) (q : Queue) → Stands tables past → counts_of (dues_in tables.tokens q) ≡ queue_counts (left tables.boot past) (of_queue (deadlines tables.boot past) q)
+queue-told tables past q s = ap counts_of (s.dues q) ∙ counts-dues (left tables.boot past) (of_queue (deadlines tables.boot past) q)
+
+abbrev tokens_told : QueueCounts → QueueCounts → QueueCounts → Reply
+tokens_told o l f = Tokens (record { obsolete = o; lifo = l; fifo = f })
+
+pub purgeables-is : (tables : TableValues) (past : List Entry) (who : ℕ) (told : TokenCounts) → told.obsolete ≡ counts_of tables.tokens.obsolete → told.lifo ≡ counts_of tables.tokens.lifo → told.fifo ≡ counts_of tables.tokens.fifo → IsTrue (fits tables.boot who Purgeables) → Stands tables past → Tokens told ≡ answer tables.boot past who Purgeables
+purgeables-is tables past who told o l f fit s =
+    ap₂ (λ x y. tokens_told x y told.fifo) (o ∙ queue-told tables past Obsolete s) (l ∙ queue-told tables past Lifo s)
+    ∙ ap (λ z. tokens_told (queue_counts (left tables.boot past) (of_queue (deadlines tables.boot past) Obsolete)) (queue_counts (left tables.boot past) (of_queue (deadlines tables.boot past) Lifo)) z) (f ∙ queue-told tables past Fifo s)
+    ∙ sym (purgeables-answer tables.boot past who (of_kernel tables.boot who Purgeables refl fit))
+
+pub purgeables-stands : (tables : TableValues) (past : List Entry) (who : ℕ) (reply : Reply) → IsTrue (fits tables.boot who Purgeables) → reply ≡ answer tables.boot past who Purgeables → Stands tables past → Stands tables (entry_of who Purgeables reply ∷ past)
+purgeables-stands tables past who reply f answered s =
+    let told = answered ∙ purgeables-answer tables.boot past who (of_kernel tables.boot who Purgeables refl f) in
+    asked-stands tables past who Purgeables reply f answered (subst (λ r. is_quiet (entry_of who Purgeables r) ≡ true) (sym told) refl) s

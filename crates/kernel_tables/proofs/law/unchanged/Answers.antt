@@ -1,0 +1,5 @@
+use Rattle.kernel_tables.proofs.Quiet.{unchanged-stands}
+use Rattle.kernel_tables.proofs.law.unchanged.Goals as goal
+
+pub returns : goal.returns
+returns c = unchanged-stands

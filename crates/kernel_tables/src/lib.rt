@@ -1,0 +1,9 @@
+//! The working state of the kernel: what it has to keep to answer each call as the definitions do over the
+//! history so far, with no look back at the history.
+#![tactic(auto)]
+
+mod asks;
+mod beginnings;
+pub mod law;
+mod parts;
+pub mod tables;
