@@ -1,6 +1,6 @@
 pub mod Lists
 pub mod StartLemmas
-pub mod Quiet
+pub mod Kept
 pub mod Counting
 pub mod Dues
 pub mod AskLemmas

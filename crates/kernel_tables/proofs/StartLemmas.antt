@@ -214,30 +214,40 @@ start-stands tables n pages groups tokens objects accounts bands delays ages wis
     let queues = ap (λ (p : Pages). p.queues) pages in
     record {
       legal = tt;
-      frames = ap (λ (p : Pages). p.frames) pages;
-      page_sizes = ap (λ (p : Pages). p.sizes) pages;
-      places = start-places boot tables.pages queues;
-      active_order = subst (λ (qs : List (List ℕ)). KeepsPages boot [] is_active (map page_of (list_at qs 0))) (sym queues) (pages-none boot is_active refl);
-      inactive_order = subst (λ (qs : List (List ℕ)). KeepsPages boot [] is_inactive (map page_of (list_at qs 1))) (sym queues) (pages-none boot is_inactive refl);
-      stored_order = subst (λ (qs : List (List ℕ)). KeepsPages boot [] is_stored (map page_of (list_at qs 2))) (sym queues) (pages-none boot is_stored refl);
-      marks = start-marks boot tables.pages n (ap (λ (p : Pages). p.marks) pages);
-      groups = subst (HasGroups boot []) (sym groups) (start-groups boot);
-      ahead = ap (λ (v : QueueDues). v.ahead) tokens ∙ start-ahead boot;
-      dues = subst (HasDues boot []) (sym tokens) (start-dues boot);
-      entered = none;
-      object_count = ap length objects ∙ length-map boot.objects new_object;
-      sharers = subst (HasSharers boot) (sym objects) (start-sharers boot);
-      sizes = subst (HasSizes boot) (sym objects) (start-sizes boot);
-      mappers = subst (HasMappers boot []) (sym objects) (start-mappers boot);
-      states = λ o l m. absurd (false≢true (sym (none_mapped boot o) ∙ m));
-      written = λ p h m. absurd (false≢true (sym (none_mapped boot p.obj) ∙ m));
-      account_count = ap length accounts ∙ length-map boot.tasks first_account;
-      accounts = subst (HasAccounts boot []) (sym accounts) (start-accounts boot);
-      wish_count = ap length wishes ∙ length-map boot.tasks (λ task. task.band);
-      wishes = subst (HasWishes boot []) (sym wishes) (start-wishes boot);
-      bands = start-bands boot tables.bands bands;
-      delays = delays;
-      ages = start-ages boot tables.ages ages;
+      pages = record {
+        frames = ap (λ (p : Pages). p.frames) pages;
+        page_sizes = ap (λ (p : Pages). p.sizes) pages;
+        places = start-places boot tables.pages queues;
+        active_order = subst (λ (qs : List (List ℕ)). KeepsPages boot [] is_active (map page_of (list_at qs 0))) (sym queues) (pages-none boot is_active refl);
+        inactive_order = subst (λ (qs : List (List ℕ)). KeepsPages boot [] is_inactive (map page_of (list_at qs 1))) (sym queues) (pages-none boot is_inactive refl);
+        stored_order = subst (λ (qs : List (List ℕ)). KeepsPages boot [] is_stored (map page_of (list_at qs 2))) (sym queues) (pages-none boot is_stored refl);
+        marks = start-marks boot tables.pages n (ap (λ (p : Pages). p.marks) pages);
+        entered = none;
+      };
+      queues = record {
+        groups = subst (HasGroups boot []) (sym groups) (start-groups boot);
+        ahead = ap (λ (v : QueueDues). v.ahead) tokens ∙ start-ahead boot;
+        dues = subst (HasDues boot []) (sym tokens) (start-dues boot);
+      };
+      objects = record {
+        object_count = ap length objects ∙ length-map boot.objects new_object;
+        sharers = subst (HasSharers boot) (sym objects) (start-sharers boot);
+        sizes = subst (HasSizes boot) (sym objects) (start-sizes boot);
+        mappers = subst (HasMappers boot []) (sym objects) (start-mappers boot);
+        states = λ o l m. absurd (false≢true (sym (none_mapped boot o) ∙ m));
+        written = λ p h m. absurd (false≢true (sym (none_mapped boot p.obj) ∙ m));
+      };
+      accounts = record {
+        account_count = ap length accounts ∙ length-map boot.tasks first_account;
+        accounts = subst (HasAccounts boot []) (sym accounts) (start-accounts boot);
+      };
+      bands = record {
+        wish_count = ap length wishes ∙ length-map boot.tasks (λ task. task.band);
+        wishes = subst (HasWishes boot []) (sym wishes) (start-wishes boot);
+        bands = start-bands boot tables.bands bands;
+        delays = delays;
+        ages = start-ages boot tables.ages ages;
+      };
     }
 
 -- the same, by an equal boot

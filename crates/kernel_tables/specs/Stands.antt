@@ -85,29 +85,50 @@ counted_ticks boot past t = if counts_for_ageing boot past t then Some (min (tic
 abbrev pub HasAges : System → List Entry → Ageing → Type 0
 HasAges boot past ages = (t : ℕ) → t < length boot.tasks → count_of ages t ≡ counted_ticks boot past t
 
+-- the pages stand as they do: the sizes and frames of the boot, each page in its place, each place in its order, the marks, and how many
+-- pages were ever deactivated
+pub record PagesStand (boot : System) (past : List Entry) (pages : Pages) (deactivated : ℕ) : Type 0 where
+  pub frames : pages.frames ≡ boot.params.frames
+  pub page_sizes : pages.sizes ≡ map (λ object. object.pages) boot.objects
+  pub places : HasPlaces boot past pages
+  pub active_order : KeepsPages boot past is_active (map page_of (active_keys pages))
+  pub inactive_order : KeepsPages boot past is_inactive (map page_of (inactive_keys pages))
+  pub stored_order : KeepsPages boot past is_stored (map page_of (stored_keys pages))
+  pub marks : HasMarks boot past pages
+  pub entered : deactivated ≡ entered past
+
+-- the volatile objects stand in their groups, and each queue has its dues
+pub record QueuesStand (boot : System) (past : List Entry) (queued : List (List ℕ)) (tokens : QueueDues) : Type 0 where
+  pub groups : HasGroups boot past queued
+  pub ahead : tokens.ahead ≡ inactive_pages boot past
+  pub dues : HasDues boot past tokens
+
+-- the objects: who shares and maps each, its size, and where it is mapped its state and its written pages
+pub record ObjectsStand (boot : System) (past : List Entry) (objects : List Object) : Type 0 where
+  pub object_count : length objects ≡ length boot.objects
+  pub sharers : HasSharers boot objects
+  pub sizes : HasSizes boot objects
+  pub mappers : HasMappers boot past objects
+  pub states : HasStates boot past objects
+  pub written : HasWritten boot past objects
+
+-- the accounts of the tasks
+pub record AccountsStand (boot : System) (past : List Entry) (ledgers : List Account) : Type 0 where
+  pub account_count : length ledgers ≡ length boot.tasks
+  pub accounts : HasAccounts boot past ledgers
+
+-- the tasks stand in their bands, with their wishes and their ages
+pub record BandsStand (boot : System) (past : List Entry) (wished : List ℕ) (bands : List (List ℕ)) (ageing : Ageing) : Type 0 where
+  pub wish_count : length wished ≡ length boot.tasks
+  pub wishes : HasWishes boot past wished
+  pub bands : HasBands boot past bands
+  pub delays : ageing.delays ≡ map (λ task. task.delay) boot.tasks
+  pub ages : HasAges boot past ageing
+
 pub record Stands (tables : TableValues) (past : List Entry) : Type 0 where
   pub legal : IsLegal tables.boot past
-  pub frames : tables.pages.frames ≡ tables.boot.params.frames
-  pub page_sizes : tables.pages.sizes ≡ map (λ object. object.pages) tables.boot.objects
-  pub places : HasPlaces tables.boot past tables.pages
-  pub active_order : KeepsPages tables.boot past is_active (map page_of (active_keys tables.pages))
-  pub inactive_order : KeepsPages tables.boot past is_inactive (map page_of (inactive_keys tables.pages))
-  pub stored_order : KeepsPages tables.boot past is_stored (map page_of (stored_keys tables.pages))
-  pub marks : HasMarks tables.boot past tables.pages
-  pub groups : HasGroups tables.boot past tables.groups
-  pub ahead : tables.tokens.ahead ≡ inactive_pages tables.boot past
-  pub dues : HasDues tables.boot past tables.tokens
-  pub entered : tables.entered ≡ entered past
-  pub object_count : length tables.objects ≡ length tables.boot.objects
-  pub sharers : HasSharers tables.boot tables.objects
-  pub sizes : HasSizes tables.boot tables.objects
-  pub mappers : HasMappers tables.boot past tables.objects
-  pub states : HasStates tables.boot past tables.objects
-  pub written : HasWritten tables.boot past tables.objects
-  pub account_count : length tables.accounts ≡ length tables.boot.tasks
-  pub accounts : HasAccounts tables.boot past tables.accounts
-  pub wish_count : length tables.wishes ≡ length tables.boot.tasks
-  pub wishes : HasWishes tables.boot past tables.wishes
-  pub bands : HasBands tables.boot past tables.bands
-  pub delays : tables.ages.delays ≡ map (λ task. task.delay) tables.boot.tasks
-  pub ages : HasAges tables.boot past tables.ages
+  pub pages : PagesStand tables.boot past tables.pages tables.entered
+  pub queues : QueuesStand tables.boot past tables.groups tables.tokens
+  pub objects : ObjectsStand tables.boot past tables.objects
+  pub accounts : AccountsStand tables.boot past tables.accounts
+  pub bands : BandsStand tables.boot past tables.wishes tables.bands tables.ages

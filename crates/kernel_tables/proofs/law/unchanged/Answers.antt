@@ -1,4 +1,4 @@
-use Rattle.kernel_tables.proofs.Quiet.{unchanged-stands}
+use Rattle.kernel_tables.proofs.Kept.{unchanged-stands}
 use Rattle.kernel_tables.proofs.law.unchanged.Goals as goal
 
 pub returns : goal.returns
