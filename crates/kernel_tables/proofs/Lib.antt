@@ -4,3 +4,5 @@ pub mod Kept
 pub mod Counting
 pub mod Dues
 pub mod AskLemmas
+pub mod Objects
+pub mod ObjectCharges
