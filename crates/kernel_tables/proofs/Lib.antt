@@ -4,3 +4,5 @@ pub mod Kept
 pub mod Counting
 pub mod Dues
 pub mod AskLemmas
+pub mod Choices
+pub mod Dropped
