@@ -6,3 +6,5 @@ pub mod Dues
 pub mod AskLemmas
 pub mod Objects
 pub mod ObjectCharges
+pub mod Choices
+pub mod Dropped
