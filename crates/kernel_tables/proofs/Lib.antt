@@ -4,3 +4,6 @@ pub mod Kept
 pub mod Counting
 pub mod Dues
 pub mod AskLemmas
+pub mod Accepted
+pub mod TaskCalls
+pub mod LimitsCall

@@ -118,10 +118,10 @@ pub record AccountsStand (boot : System) (past : List Entry) (ledgers : List Acc
   pub accounts : HasAccounts boot past ledgers
 
 -- the tasks stand in their bands, with their wishes and their ages
-pub record BandsStand (boot : System) (past : List Entry) (wished : List ℕ) (bands : List (List ℕ)) (ageing : Ageing) : Type 0 where
+pub record BandsStand (boot : System) (past : List Entry) (wished : List ℕ) (banded : List (List ℕ)) (ageing : Ageing) : Type 0 where
   pub wish_count : length wished ≡ length boot.tasks
   pub wishes : HasWishes boot past wished
-  pub bands : HasBands boot past bands
+  pub bands : HasBands boot past banded
   pub delays : ageing.delays ≡ map (λ task. task.delay) boot.tasks
   pub ages : HasAges boot past ageing
 
