@@ -1,11 +1,18 @@
 //! Does the operations of `crates/parts_bench` on plain Rust versions of the same arrays, and prints the same
-//! checksums. It has the same words: a part and the number of operations.
+//! checksums. It has the same words: a part and the number of operations. As `serial`, `run` and `check` it does what the program does with
+//! a good text on standard input.
 
 mod draws;
+mod kernel;
 mod lists;
+mod model;
 mod pages;
 mod queues;
+mod runs;
+mod text;
 mod tokens;
+
+use std::io::Read;
 
 fn main() {
     let words: Vec<String> = std::env::args().skip(1).collect();
@@ -15,6 +22,11 @@ fn main() {
         Some("pages") => println!("{}", pages::run(operations)),
         Some("tokens") => println!("{}", tokens::run(operations)),
         Some("queues") => println!("{}", queues::run(operations)),
+        Some(name @ ("serial" | "run" | "check")) => {
+            let mut input = String::new();
+            std::io::stdin().read_to_string(&mut input).expect("a text");
+            runs::command(name, &input, &mut std::io::stdout());
+        }
         _ => println!("no such part"),
     }
 }
