@@ -8,3 +8,6 @@ pub mod Objects
 pub mod ObjectCharges
 pub mod Choices
 pub mod Dropped
+pub mod Accepted
+pub mod TaskCalls
+pub mod LimitsCall
