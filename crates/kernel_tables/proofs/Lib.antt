@@ -6,6 +6,8 @@ pub mod Dues
 pub mod AskLemmas
 pub mod Objects
 pub mod ObjectCharges
+pub mod Unmapped
+pub mod ObjectEntries
 pub mod Choices
 pub mod Dropped
 pub mod Accepted
