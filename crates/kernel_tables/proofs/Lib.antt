@@ -8,6 +8,8 @@ pub mod Objects
 pub mod ObjectCharges
 pub mod Unmapped
 pub mod ObjectEntries
+pub mod MapCall
+pub mod AttachCall
 pub mod Choices
 pub mod Dropped
 pub mod Accepted
