@@ -4,7 +4,9 @@
 
 mod asks;
 mod beginnings;
+mod charging;
 pub mod law;
+mod mapping;
 mod parts;
 pub mod tables;
 mod tasks;
