@@ -6,3 +6,5 @@ pub mod Dues
 pub mod AskLemmas
 pub mod Choices
 pub mod Dropped
+pub mod Emptied
+pub mod Purged
