@@ -4,6 +4,8 @@ pub mod Kept
 pub mod Counting
 pub mod Dues
 pub mod AskLemmas
+pub mod Objects
+pub mod ObjectCharges
 pub mod Choices
 pub mod Dropped
 pub mod Emptied
