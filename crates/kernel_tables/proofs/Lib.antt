@@ -6,7 +6,12 @@ pub mod Dues
 pub mod AskLemmas
 pub mod Objects
 pub mod ObjectCharges
+pub mod Unmapped
+pub mod ObjectEntries
 pub mod Choices
 pub mod Dropped
 pub mod Emptied
 pub mod Purged
+pub mod Accepted
+pub mod TaskCalls
+pub mod LimitsCall

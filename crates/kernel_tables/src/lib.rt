@@ -7,3 +7,4 @@ mod beginnings;
 pub mod law;
 mod parts;
 pub mod tables;
+mod tasks;
