@@ -12,6 +12,7 @@ pub mod Choices
 pub mod Dropped
 pub mod Emptied
 pub mod Purged
+pub mod PurgeSteps
 pub mod Accepted
 pub mod TaskCalls
 pub mod LimitsCall

@@ -2,4 +2,5 @@ pub mod Values
 pub mod Start
 pub mod Stands
 pub mod Emptying
+pub mod Picked
 pub mod Charges

@@ -6,5 +6,6 @@ mod asks;
 mod beginnings;
 pub mod law;
 mod parts;
+mod purges;
 pub mod tables;
 mod tasks;
