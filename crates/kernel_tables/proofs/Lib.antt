@@ -15,6 +15,9 @@ pub mod SetQueues
 pub mod SetEntry
 pub mod Choices
 pub mod Dropped
+pub mod Emptied
+pub mod Purged
+pub mod PurgeSteps
 pub mod Accepted
 pub mod TaskCalls
 pub mod LimitsCall

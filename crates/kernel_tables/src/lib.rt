@@ -8,5 +8,6 @@ mod charging;
 pub mod law;
 mod mapping;
 mod parts;
+mod purges;
 pub mod tables;
 mod tasks;
