@@ -21,3 +21,4 @@ pub mod PurgeSteps
 pub mod Accepted
 pub mod TaskCalls
 pub mod LimitsCall
+pub mod SetState

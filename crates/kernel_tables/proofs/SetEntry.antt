@@ -150,6 +150,9 @@ module _ (boot : System) (who o word : ℕ) (wish : Wish) (before : List Entry) 
   pub set-stamp : (from : Option Queue) (at : Queue × ℕ) → (row (state before o) wish from).enter ≡ Some at → (standing (setting ∷ before) o).vstamp ≡ length before
   set-stamp from at h = ap (λ (s : Standing). s.vstamp) standing_here ∙ stamped (state before o) wish from (length before) (standing before o) at h
 
+  pub set-group : (from : Option Queue) (at : Queue × ℕ) → (row (state before o) wish from).enter ≡ Some at → (standing (setting ∷ before) o).group ≡ at.1
+  set-group from at h = ap (λ (s : Standing). s.group) standing_here ∙ ap (λ (w : Wish). (unwrap_or (standing_asked (length before) w) (standing before o)).group) (row-group (state before o) wish from at h)
+
   pub set-entered : entered (setting ∷ before) ≡ entered before
   set-entered = entered-kept setting before refl
 

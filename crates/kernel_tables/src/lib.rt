@@ -9,5 +9,6 @@ pub mod law;
 mod mapping;
 mod parts;
 mod purges;
+mod states;
 pub mod tables;
 mod tasks;
