@@ -22,3 +22,4 @@ pub mod Accepted
 pub mod TaskCalls
 pub mod LimitsCall
 pub mod SetState
+pub mod SetEmptied

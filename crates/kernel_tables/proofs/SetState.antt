@@ -84,9 +84,9 @@ list_of l b = elim (cases_lt l 8) [
   ]
 ]
 
-volatile_state : (boot : System) (past : List Entry) (o : ℕ) → mapped boot past o ≡ true → volatile boot past o ≡ is_volatile_state (state past o)
+pub volatile-state : (boot : System) (past : List Entry) (o : ℕ) → mapped boot past o ≡ true → volatile boot past o ≡ is_volatile_state (state past o)
 unfolding volatile
-volatile_state boot past o m = ap (λ b. b && is_volatile_state (state past o)) m
+volatile-state boot past o m = ap (λ b. b && is_volatile_state (state past o)) m
 
 both_true : (a b : Bool) → (a && b) ≡ true → a ≡ true
 both_true true b h = refl
@@ -122,26 +122,26 @@ module _ (tables : TableValues) (past : List Entry) (who o word : ℕ) (wish : W
   pub set-reply : (old : State) → old ≡ (object_at tables.objects o).state → Old old ≡ answer tables.boot past who (SetState o word)
   set-reply old e = ap Old (e ∙ set-state_at) ∙ sym (accepted-answer tables.boot past who (SetState o word) a)
 
-  abbrev entry : Entry
+  abbrev pub entry : Entry
   entry = setting tables.boot who o word wish past is set-found set-inside
 
-  set_legal : IsLegal tables.boot (entry ∷ past)
-  set_legal = (f, sym (accepted-answer tables.boot past who (SetState o word) a), s.legal)
+  pub set-legal : IsLegal tables.boot (entry ∷ past)
+  set-legal = (f, sym (accepted-answer tables.boot past who (SetState o word) a), s.legal)
 
   volatile_now : volatile tables.boot past o ≡ is_volatile_state (object_at tables.objects o).state
-  volatile_now = volatile_state tables.boot past o set-found ∙ ap is_volatile_state (sym set-state_at)
+  volatile_now = volatile-state tables.boot past o set-found ∙ ap is_volatile_state (sym set-state_at)
 
   module _ (are : AreGroups tables.groups) (from : Option Queue) (queue : from ≡ queue_of o tables.groups) where
-    from_volatile : volatile tables.boot past o ≡ true → from ≡ Some (standing past o).queue
-    from_volatile h = queue ∙ volatile-queue tables past s are o set-inside h
+    pub set-from_volatile : volatile tables.boot past o ≡ true → from ≡ Some (standing past o).queue
+    set-from_volatile h = queue ∙ volatile-queue tables past s are o set-inside h
 
-    from_none : volatile tables.boot past o ≡ false → from ≡ None
-    from_none h = queue ∙ ap (option_map queue_at) (nowhere tables past o s are h)
+    pub set-from_none : volatile tables.boot past o ≡ false → from ≡ None
+    set-from_none h = queue ∙ ap (option_map queue_at) (nowhere tables past o s are h)
 
     pub set-from : is_some from ≡ is_volatile_state (object_at tables.objects o).state
     set-from = elim (cases_Bool (volatile tables.boot past o)) [
-      | inl h ↦ ap is_some (from_volatile h) ∙ sym h ∙ volatile_now
-      | inr h ↦ ap is_some (from_none h) ∙ sym h ∙ volatile_now
+      | inl h ↦ ap is_some (set-from_volatile h) ∙ sym h ∙ volatile_now
+      | inr h ↦ ap is_some (set-from_none h) ∙ sym h ∙ volatile_now
     ]
 
     pub set-token : (q : Queue) → from ≡ Some q → 0 < length (dues_in tables.tokens q)
@@ -155,7 +155,7 @@ module _ (tables : TableValues) (past : List Entry) (who o word : ℕ) (wish : W
       leaves_is = ap (λ (x : SetAnswer). x.leave) told ∙ row-leaves (object_at tables.objects o).state wish from ∙ sym volatile_now
 
       pub set-stands : done.leave ≡ true → IsSome (place_of o tables.groups)
-      set-stands h = stands-somewhere o tables.groups (standing past o).queue (sym queue ∙ from_volatile (sym leaves_is ∙ h))
+      set-stands h = stands-somewhere o tables.groups (standing past o).queue (sym queue ∙ set-from_volatile (sym leaves_is ∙ h))
 
       entered_is : (at : Queue × ℕ) → done.enter ≡ Some at → (row (state past o) wish from).enter ≡ Some at
       entered_is at h = ap (λ (x : SetAnswer). x.enter) (sym done_is) ∙ h
@@ -187,7 +187,7 @@ module _ (tables : TableValues) (past : List Entry) (who o word : ℕ) (wish : W
       deadlines_are : deadlines_by past done from (deadlines tables.boot past) ≡ deadlines tables.boot (entry ∷ past)
       deadlines_are =
           ap (λ (x : SetAnswer). deadlines_by past x from (deadlines tables.boot past)) done_is
-          ∙ row-deadlines tables.boot past o (state past o) wish from (deadlines tables.boot past) (λ h. from_volatile (volatile_state tables.boot past o set-found ∙ ap is_volatile_state h))
+          ∙ row-deadlines tables.boot past o (state past o) wish from (deadlines tables.boot past) (λ h. set-from_volatile (volatile-state tables.boot past o set-found ∙ ap is_volatile_state h))
           ∙ sym (deadlines-set tables.boot who o word (state past o) wish past is)
 
       follows_now : Follows (deadlines tables.boot past) (entered past) (left tables.boot past) tables.tokens
@@ -198,7 +198,7 @@ module _ (tables : TableValues) (past : List Entry) (who o word : ℕ) (wish : W
 
       few_deadlines : (q : Queue) → length (of_queue (deadlines_by past done from (deadlines tables.boot past)) q) ≤ 256
       few_deadlines q =
-          let n : length (of_queue (deadlines tables.boot (entry ∷ past)) q) ≡ queue_objects tables.boot (entry ∷ past) q = (tokens-hold tables.boot (entry ∷ past) v set_legal).count q in
+          let n : length (of_queue (deadlines tables.boot (entry ∷ past)) q) ≡ queue_objects tables.boot (entry ∷ past) q = (tokens-hold tables.boot (entry ∷ past) v set-legal).count q in
           let most : queue_objects tables.boot (entry ∷ past) q ≤ length (objects_of tables.boot) = count_by-le-length (λ x. volatile tables.boot (entry ∷ past) x && same_queue (standing (entry ∷ past) x).queue q) (objects_of tables.boot) in
           let all : length (objects_of tables.boot) ≡ length tables.boot.objects = length-range_with_len 0 (length tables.boot.objects) in
           let objects : length tables.boot.objects ≤ 256 = v.few_objects in
@@ -270,7 +270,7 @@ module _ (tables : TableValues) (past : List Entry) (who o word : ℕ) (wish : W
               let gone = set-left tables.boot who o word wish past is set-found set-inside keeps_state in
               let all : Stands (record tables { groups = groups; tokens = tokens; objects = objects; accounts = accounts }) (entry ∷ past) =
               record {
-                legal = set_legal;
+                legal = set-legal;
                 pages = set-pages tables.boot who o word wish past is set-found set-inside keeps_state tables.pages tables.entered s.pages;
                 queues = record {
                   groups = groups_after left_groups went groups entered_g;

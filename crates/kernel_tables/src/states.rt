@@ -1,6 +1,6 @@
 //! The accepted calls that set the state of an object.
 
-ghost use Rattle.std.specs.Prelude.{◌≡◌, ◌∷◌, ◌<◌, ◌&&◌, ℕ, List, IsNone, IsSome, IsTrue, None, Some, false, if◌then◌else◌, length, map, not, true};
+ghost use Rattle.std.specs.Prelude.{◌≡◌, ◌∷◌, ◌<◌, ◌&&◌, ℕ, List, IfSome, IsNone, IsSome, IsTrue, None, Some, false, if◌then◌else◌, length, map, not, true};
 ghost use Rattle.kern_ids.specs.StateWord.{decoded};
 ghost use Rattle.kern_ids.specs.declared.calls.Call.TheVariants.{SetState};
 ghost use Rattle.kern_ids.specs.declared.calls.Queue.{Queue as AQueue};
@@ -8,6 +8,7 @@ ghost use Rattle.kern_ids.specs.declared.calls.Queue.TheVariants.{Obsolete};
 ghost use Rattle.kern_ids.specs.declared.entries.Entry.{Entry};
 ghost use Rattle.kernel_model.specs.Answers.{answer, refusal};
 ghost use Rattle.kernel_model.specs.Contents.{is_ask_empty};
+ghost use Rattle.kernel_model.specs.Groups.{is_volatile_state};
 ghost use Rattle.kernel_model.specs.Histories.{fits};
 ghost use Rattle.kernel_model.specs.State.{is_empty};
 ghost use Rattle.kernel_tables.specs.Settings.{entered_at, token_added, token_taken};
@@ -19,7 +20,7 @@ ghost use Rattle.vm_object.specs.Objects.{object_at};
 
 use crate::charging::{burden, relieve};
 use crate::parts::Parts;
-use kern_ids::calls::{Queue, Wish};
+use kern_ids::calls::{Queue, State, Wish, decode_word};
 use kern_ids::ids::{ObjId, ThreadId};
 use kern_ids::replies::Reply;
 use ripen_advance::TokenQueues;
@@ -74,7 +75,80 @@ fn add_token(tokens: &mut TokenQueues, done: &SetAnswer)
     }
 }
 
+/// The first token of the queue in which an object stood goes.
+fn take_first(tokens: &mut TokenQueues, from: Option<Queue>)
+    requires { (q : AQueue) → from ≡ Some q → 0 < length (dues_in tokens.old q) }
+    ensures { tokens.new ≡ token_taken true false from tokens.old }
+{
+    if let Some(q) = from {
+        tokens.drop_first(q);
+    }
+}
+
+/// Whether a state is VOLATILE.
+fn is_volatile(state: State) -> bool
+    ensures { result ≡ is_volatile_state state }
+{
+    match state {
+        State::Volatile => true,
+        _ => false,
+    }
+}
+
+/// Whether an object in a state is emptied by what is asked.
+fn is_emptied(state: State, wish: Wish) -> bool
+    ensures { result ≡ (is_ask_empty wish && not (is_empty state)) }
+{
+    match wish {
+        Wish::Empty => match state {
+            State::Empty => false,
+            _ => true,
+        },
+        _ => false,
+    }
+}
+
 impl Parts {
+    /// SetState, where it is not refused.
+    pub(crate) fn set_state(&mut self, who: ThreadId, o: ObjId, word: u32) -> Reply
+        ghost past: { List Entry }
+        requires stands { Stands (values self.old) past }
+        requires fits { IsTrue (fits self.old.boot who (SetState o word)) }
+        requires accepted { refusal self.old.boot past who (SetState o word) ≡ None }
+        ensures reply { result ≡ answer self.old.boot past who (SetState o word) }
+        ensures stands { Stands (values self.new) (entry_of who (SetState o word) result ∷ past) }
+        ensures boot { self.new.boot ≡ self.old.boot }
+    {
+        let wish = decode_word(word).unwrap();
+        let state = self.objects.table.state(o);
+        if is_emptied(state, wish) {
+            self.set_emptied(who, o, word)
+        } else {
+            self.set_kept(who, o, word, wish)
+        }
+    }
+
+    /// SetState, where it is not refused and empties the object.
+    fn set_emptied(&mut self, who: ThreadId, o: ObjId, word: u32) -> Reply
+        ghost past: { List Entry }
+        requires stands { Stands (values self.old) past }
+        requires fits { IsTrue (fits self.old.boot who (SetState o word)) }
+        requires accepted { refusal self.old.boot past who (SetState o word) ≡ None }
+        requires empties { IfSome (decoded word) (λ wish. (is_ask_empty wish && not (is_empty (object_at self.old.objects.table o).state)) ≡ true) }
+        ensures reply { result ≡ answer self.old.boot past who (SetState o word) }
+        ensures stands { Stands (values self.new) (entry_of who (SetState o word) result ∷ past) }
+        ensures boot { self.new.boot ≡ self.old.boot }
+    {
+        self.boot.valid();
+        self.objects.groups.are_groups();
+        let state = self.objects.table.state(o);
+        let from = self.objects.groups.queue_of(o);
+        leave_group(&mut self.objects.groups, o, is_volatile(state));
+        take_first(&mut self.objects.tokens, from);
+        self.empty_object(o);
+        Reply::Old(state)
+    }
+
     /// SetState, where it is not refused and empties nothing.
     fn set_kept(&mut self, who: ThreadId, o: ObjId, word: u32, wish: Wish) -> Reply
         ghost past: { List Entry }
