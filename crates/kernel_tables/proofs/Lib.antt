@@ -7,3 +7,8 @@ pub mod AskLemmas
 pub mod Accepted
 pub mod TaskCalls
 pub mod LimitsCall
+pub mod Placing
+pub mod BandCall
+pub mod ActiveCall
+pub mod Positions
+pub mod TickCall

@@ -6,5 +6,7 @@ mod asks;
 mod beginnings;
 pub mod law;
 mod parts;
+mod placings;
 pub mod tables;
 mod tasks;
+mod ticks;
