@@ -1,9 +1,9 @@
 -- Active: a task becomes active or inactive. Where that changes and it wishes band 0, it goes to the tail of its ageing band, and counts there
 -- from now on while it is inactive.
-use Rattle.std.proofs.Common.{◌≡◌, ℕ, suc, ◌<◌, List, [], ◌∷◌, ◌++◌, set, length, Option, Some, None, refl, sym, ap, ap₂, ◌∙◌, subst, Bool, true, false, ◌&&◌, not, cond, nat_eq, nat_lt, get_or, inl, inr, arith}
-use Rattle.std.specs.Prelude.{IsTrue, min, is_some}
+use Rattle.std.proofs.Common.{◌≡◌, ℕ, suc, ◌<◌, List, [], ◌∷◌, ◌++◌, set, length, Option, Some, None, refl, sym, ap, ap₂, ◌∙◌, subst, Bool, true, false, ◌&&◌, not, cond, nat_eq, get_or, inl, inr, arith}
+use Rattle.std.specs.Prelude.{IsTrue, min}
 use Rattle.std.specs.Option.{option_map_or, unwrap_or}
-use Rattle.std.proofs.lemmas.Bool.{false≢true, true≢false}
+use Rattle.std.proofs.lemmas.Bool.{false≢true}
 use Rattle.std.proofs.lemmas.Bool.Decides.{eqb_tells, nat_tests}
 use Rattle.kern_ids.specs.declared.entries.Entry.{Entry}
 use Rattle.kern_ids.specs.declared.calls.Call.TheVariants.{Active as SetActive}
@@ -29,7 +29,7 @@ use Rattle.kernel_tables.specs.Stands.{Stands, AccountsStand, BandsStand, HasBan
 use Rattle.kernel_tables.proofs.Kept.{kept-account, kept-band}
 use Rattle.kernel_tables.proofs.Accepted.{accepted-answer, accepted-live, fitting-side}
 use Rattle.kernel_tables.proofs.TaskCalls.{OnlyTasks, only-live, only-counts, only-stands, accounts-set}
-use Rattle.kernel_tables.proofs.Placing.{nat-is, both-true, placed-bands, counted-kept, ages-one}
+use Rattle.kernel_tables.proofs.Placing.{both-true, placed-bands, counted-kept, ages-one}
 
 active-only : (who : ℕ) (on was : Bool) → OnlyTasks (active_entry who on was)
 active-only who on was = record {

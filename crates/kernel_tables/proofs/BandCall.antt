@@ -1,5 +1,5 @@
 -- SetBand: a task wishes a band, goes to its tail or to that of its ageing band, and counts there from now on where it wishes band 0.
-use Rattle.std.proofs.Common.{◌≡◌, ℕ, suc, ◌<◌, List, [], ◌∷◌, ◌++◌, set, length, Option, Some, None, refl, sym, ap, ap₂, ◌∙◌, subst, Bool, true, false, ◌&&◌, not, cond, nat_eq, nat_lt, get_or, inl, inr, arith}
+use Rattle.std.proofs.Common.{◌≡◌, ℕ, suc, ◌<◌, List, [], ◌∷◌, ◌++◌, set, length, Some, None, refl, sym, ap, ◌∙◌, subst, Bool, true, false, ◌&&◌, not, cond, nat_eq, nat_lt, get_or, inl, inr, arith}
 use Rattle.std.specs.Prelude.{IsTrue, min}
 use Rattle.std.proofs.lemmas.Bool.Decides.{eqb_tells, nat_tests}
 use Rattle.std.proofs.lemmas.List.{get_or-set_same, get_or-set_other, length-set}
@@ -11,7 +11,7 @@ use Rattle.kernel_model.specs.Answers.{answer, refusal}
 use Rattle.kernel_model.specs.Histories.{fits}
 use Rattle.kernel_model.specs.Mapping.{live}
 use Rattle.kernel_model.specs.Lists.{some_if}
-use Rattle.kernel_model.specs.Bands.{Placing, active, wish, band, placing, ticks, counts_for_ageing, of_task, sets_active}
+use Rattle.kernel_model.specs.Bands.{Placing, active, wish, band, placing, ticks, counts_for_ageing, of_task}
 use Rattle.kernel_model.specs.Laws.Kinds.{band_entry}
 use Rattle.kernel_model.proofs.Laws.Kept.{active-kept, band-kept, limits-kept, counts_for_ageing-kept}
 use Rattle.kernel_model.proofs.Laws.Kinds.{wish-band, placing-band, ticks-band, sets_active-none}
@@ -24,7 +24,7 @@ use Rattle.kernel_tables.specs.Stands.{Stands, AccountsStand, BandsStand, HasWis
 use Rattle.kernel_tables.proofs.Kept.{kept-accounts}
 use Rattle.kernel_tables.proofs.Accepted.{accepted-answer, accepted-named, fitting-names}
 use Rattle.kernel_tables.proofs.TaskCalls.{OnlyTasks, only-live, only-counts, only-stands}
-use Rattle.kernel_tables.proofs.Placing.{nat-isnt, placed-bands, counted-kept, ages-one}
+use Rattle.kernel_tables.proofs.Placing.{placed-bands, counted-kept, ages-one}
 
 pub band-only : (who t w : ℕ) → OnlyTasks (band_entry who t w)
 band-only who t w = record {

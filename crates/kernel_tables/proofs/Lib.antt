@@ -12,3 +12,5 @@ pub mod BandCall
 pub mod ActiveCall
 pub mod Positions
 pub mod TickCall
+pub mod VerdictLemmas
+pub mod VerdictCall

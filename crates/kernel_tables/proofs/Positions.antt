@@ -60,8 +60,8 @@ rising-places i [] d = tt
 rising-places i (x ∷ xs) d = (
   (λ t h. later_in x i xs t d.0 h),
   rising-agree (λ t u. nat_lt (place_in (i + 1) xs t) (place_in (i + 1) xs u)) (λ t u. nat_lt (place_in i (x ∷ xs) t) (place_in i (x ∷ xs) u)) xs
-  (λ t u ht hu. ap₂ nat_lt (place_there x i xs t (apart_in x xs t d.0 ht)) (place_there x i xs u (apart_in x xs u d.0 hu)))
-  (rising-places (i + 1) xs d.1),
+      (λ t u ht hu. ap₂ nat_lt (place_there x i xs t (apart_in x xs t d.0 ht)) (place_there x i xs u (apart_in x xs u d.0 hu)))
+      (rising-places (i + 1) xs d.1),
 )
 
 pub position-place : (t : ℕ) (xs : List ℕ) → has t xs ≡ true → position (nat_eq t) xs ≡ Some (place_in 0 xs t)

@@ -1,9 +1,8 @@
 -- Tick: the tasks that are due go to band 0 in the order of their bands and count no more, and the others that count count one more.
-use Rattle.std.proofs.Common.{◌≡◌, ℕ, suc, ◌+◌, ◌<◌, ◌≤◌, List, [], ◌∷◌, ◌++◌, length, filter, map, Option, Some, None, get_or, refl, sym, ap, ap₂, ◌∙◌, subst, Bool, true, false, ◌&&◌, ◌||◌, not, cond, nat_eq, nat_lt, nat_le, inl, inr, ◌⊎◌, arith}
-use Rattle.std.specs.Prelude.{IsTrue, min, slice_get, position, All}
+use Rattle.std.proofs.Common.{◌≡◌, ℕ, suc, ◌+◌, ◌<◌, ◌≤◌, List, [], ◌∷◌, ◌++◌, length, filter, Some, None, get_or, refl, sym, ap, ap₂, ◌∙◌, subst, Bool, true, false, ◌&&◌, ◌||◌, not, cond, nat_eq, nat_lt, nat_le, inl, inr, ◌⊎◌, arith}
+use Rattle.std.specs.Prelude.{IsTrue, min, slice_get}
 use Rattle.std.specs.Option.{option_map_or, option_map}
-use Rattle.std.specs.List.{range_with_len}
-use Rattle.std.proofs.lemmas.Bool.{cases_Bool, cases_lt, lt-leb, le-leb, false≢true, true≢false}
+use Rattle.std.proofs.lemmas.Bool.{cases_lt, lt-leb, le-leb, false≢true, true≢false}
 use Rattle.std.proofs.lemmas.Bool.Decides.{nat_tests}
 use Rattle.std.proofs.lemmas.List.FromFn.{length-map-range_with_len, get_or-map-range_with_len}
 use Rattle.std.proofs.lemmas.List.Elements.{All-get_or}
@@ -26,7 +25,7 @@ use Rattle.kernel_model.specs.Laws.Order.{Has, Rising, Keeps, Distinct}
 use Rattle.kernel_model.specs.Laws.Queues.{KeepsBand, bstamp_lt}
 use Rattle.kernel_model.proofs.Laws.Kept.{wish-kept, active-kept, band-kept, limits-kept, counts_for_ageing-kept}
 use Rattle.kernel_model.proofs.Laws.Kinds.{placing-tick, ticks-tick, sets_active-none}
-use Rattle.kernel_model.proofs.Laws.Order.{rising-filter, rising-append, rising-agree, filter-has, has-filter, has-append_cases, has-append_left, has-append_right, in_order-keeps, distinct-filter}
+use Rattle.kernel_model.proofs.Laws.Order.{rising-filter, rising-append, rising-agree, filter-has, has-filter, has-append_cases, has-append_left, has-append_right, in_order-keeps}
 use Rattle.kernel_model.proofs.Laws.Queues.{band-enter, has-range, distinct-range}
 use Rattle.kernel_model.proofs.Laws.Pressed.{bstamps-differ, band_lt-asym, band_lt-trans}
 use Rattle.link_list.specs.KeyLists.{list_at, has}
@@ -38,7 +37,7 @@ use Rattle.kernel_tables.proofs.Kept.{kept-accounts}
 use Rattle.kernel_tables.proofs.Lists.{at-some, get_or-mapped, has-fact, fact-has}
 use Rattle.kernel_tables.proofs.Accepted.{accepted-answer}
 use Rattle.kernel_tables.proofs.TaskCalls.{OnlyTasks, only-live, only-counts, only-stands}
-use Rattle.kernel_tables.proofs.Placing.{nat-is, both-true, counted-kept}
+use Rattle.kernel_tables.proofs.Placing.{nat-is, both-true}
 use Rattle.kernel_tables.proofs.Positions.{placed_all, placed_all-at, place_in, position-place, position-none, rising-places}
 
 tick-only : (who : ℕ) (line : List ℕ) → OnlyTasks (tick_entry who line)
@@ -138,7 +137,7 @@ task-valid boot valid t l =
     let q = at-some boot.tasks t l in
     (q.0, q.1, subst IsValidTask (get_or_from_slice_get boot.tasks t q.0 q.0 q.1) (All-get_or IsValidTask boot.tasks t q.0 l valid.tasks))
 
-ageing-in : (boot : System) → IsValidBoot boot → (t : ℕ) → t < length boot.tasks → (1 ≤ of_task (λ task. task.ageing) boot t 0) × (of_task (λ task. task.ageing) boot t 0 ≤ 2)
+pub ageing-in : (boot : System) → IsValidBoot boot → (t : ℕ) → t < length boot.tasks → (1 ≤ of_task (λ task. task.ageing) boot t 0) × (of_task (λ task. task.ageing) boot t 0 ≤ 2)
 ageing-in boot valid t l =
     let q = task-valid boot valid t l in
     let e : of_task (λ task. task.ageing) boot t 0 ≡ q.0.ageing = ap (λ o. option_map_or (λ task. task.ageing) o 0) q.1 in

@@ -10,3 +10,4 @@ mod placings;
 pub mod tables;
 mod tasks;
 mod ticks;
+mod verdicts;

@@ -1,4 +1,4 @@
-use Rattle.std.proofs.Common.{◌≡◌, ◌<◌, length, Some, sym, ap, ◌∙◌, subst}
+use Rattle.std.proofs.Common.{◌≡◌, ◌<◌, length, Some, sym, ap, ◌∙◌}
 use Rattle.kernel_model.specs.Events.{task_of}
 use Rattle.kern_ids.specs.declared.replies.Reply.TheVariants.{Was}
 use Rattle.kernel_tables.specs.Values.{values}
