@@ -6,4 +6,5 @@ mod asks;
 mod beginnings;
 pub mod law;
 mod parts;
+mod refusals;
 pub mod tables;
