@@ -5,3 +5,10 @@ pub mod Counting
 pub mod Dues
 pub mod AskLemmas
 pub mod Refused
+pub mod Objects
+pub mod ObjectCharges
+pub mod Choices
+pub mod Dropped
+pub mod Accepted
+pub mod TaskCalls
+pub mod LimitsCall

@@ -2,3 +2,4 @@ pub mod Values
 pub mod Start
 pub mod Stands
 pub mod Asked
+pub mod Charges

@@ -8,3 +8,4 @@ pub mod law;
 mod parts;
 mod refusals;
 pub mod tables;
+mod tasks;
