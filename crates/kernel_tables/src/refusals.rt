@@ -8,6 +8,7 @@ ghost use Rattle.kernel_model.specs.Events as events;
 ghost use Rattle.kernel_model.specs.Histories.{fits};
 ghost use Rattle.kernel_model.specs.State as states;
 ghost use Rattle.kernel_model.specs.Mapping.{mapped};
+ghost use Rattle.kernel_model.specs.Laws.Frames.{bit};
 ghost use Rattle.kernel_tables.specs.Values.{values};
 ghost use Rattle.kernel_tables.specs.Stands.{Stands};
 ghost use Rattle.kernel_model.specs.Pages.{place, pages_in, free};
@@ -82,6 +83,13 @@ fn reaches(off: u32, len: u32, k: u32) -> bool
     u64::from(off) < start + 4096 && start < u64::from(off) + u64::from(len) && 0 < len
 }
 
+fn one_if(held: bool) -> u32
+    ensures value { result ≡ bit held }
+    ensures small { result ≤ 1 }
+{
+    if held { 1 } else { 0 }
+}
+
 impl Parts {
     /// The task of a task thread.
     fn task_in(&self, who: ThreadId) -> Option<TaskId>
@@ -128,6 +136,7 @@ impl Parts {
         requires object { o < length self.now.boot.objects }
         ensures { result ≡ mapped self.now.boot past o }
     {
+        self.boot.valid();
         self.objects.table.is_mapped(o)
     }
 
@@ -246,8 +255,7 @@ impl Parts {
         ensures { result ≡ spec.needed self.now.boot past o off len }
     {
         let first = off / 4096;
-        u32::from(self.is_needed(o, off, len, first))
-            + u32::from(self.is_needed(o, off, len, first + 1))
+        one_if(self.is_needed(o, off, len, first)) + one_if(self.is_needed(o, off, len, first + 1))
     }
 
     fn short_of(&self, o: ObjId, off: u32, len: u32) -> Option<Refusal>
