@@ -3,6 +3,7 @@ pub mod StartLemmas
 pub mod Kept
 pub mod Counting
 pub mod Dues
+pub mod Asked
 pub mod AskLemmas
 pub mod Refused
 pub mod Objects

@@ -21,7 +21,8 @@ use Rattle.kernel_model.specs.Lists.{some_if}
 use Rattle.kernel_model.specs.Mapping.{maps, mapped}
 use Rattle.kernel_model.specs.Answers.{object_of, named_task, no_object, bad_range, needed, short_of}
 use Rattle.kernel_model.specs.Laws.Frames.{bit}
-use Rattle.kernel_model.proofs.Laws.Held.{declared_task, maps_mapped, not_false}
+use Rattle.kernel_model.proofs.Laws.Held.{maps_mapped, not_false}
+use Rattle.kernel_tables.proofs.Asked.{less}
 use Rattle.kernel_model.proofs.Laws.Untouched.{pages-has}
 use Rattle.page_queues.specs.Pages.{IsPage, free as free_in, place as place_in}
 use Rattle.vm_object.specs.Objects.{object_at}
@@ -30,66 +31,6 @@ use Rattle.kernel_tables.specs.Stands.{Stands}
 use Rattle.kernel_tables.specs.Asked.{IsAsked}
 use Rattle.kernel_tables.proofs.Lists.{at-some, get_or-mapped, filter-more}
 use Rattle.kernel_tables.proofs.AskLemmas.{active-are, inactive-are}
-
--- what a test of numbers tells
-pub less : (a b : ℕ) → nat_lt a b ≡ true → a < b
-less a b h = elim (Rattle.std.proofs.lemmas.Bool.cases_lt a b) [
-  | inl l ↦ l
-  | inr m ↦ let f : nat_lt a b ≡ false = grind (arith, nat_tests) in absurd (true≢false (sym h ∙ f))
-]
-
--- the object that a call names is declared, and so is the task
-named_object : (boot : System) (call : Call) → names_fit boot call ≡ true → IfSome (object_of call) (λ o. o < length boot.objects)
-named_object boot (Map o) n = less o (length boot.objects) n
-named_object boot (Attach o) n = less o (length boot.objects) n
-named_object boot (Unmap o) n = less o (length boot.objects) n
-named_object boot (Write o off bytes) n = less o (length boot.objects) (and_parts (nat_lt o (length boot.objects)) (nat_lt 0 (length bytes)) n).0
-named_object boot (Read o off len) n = less o (length boot.objects) n
-named_object boot (SetState o word) n = less o (length boot.objects) n
-named_object boot (GetState o) n = less o (length boot.objects) n
-named_object boot (Active on) n = tt
-named_object boot Ledger n = tt
-named_object boot Exit n = tt
-named_object boot PurgeOne n = tt
-named_object boot Forced n = tt
-named_object boot Scan n = tt
-named_object boot Tick n = tt
-named_object boot Jetsam n = tt
-named_object boot (SetBand t band) n = tt
-named_object boot (SetLimits t a i) n = tt
-named_object boot Info n = tt
-named_object boot Purgeables n = tt
-
-task_named : (boot : System) (call : Call) → names_fit boot call ≡ true → IfSome (named_task call) (λ t. t < length boot.tasks)
-task_named boot (SetBand t band) n = less t (length boot.tasks) n
-task_named boot (SetLimits t a i) n = less t (length boot.tasks) (and_parts (nat_lt t (length boot.tasks)) (limit_ok a) (and_parts (nat_lt t (length boot.tasks) && limit_ok a) (limit_ok i) n).0).0
-task_named boot (Map o) n = tt
-task_named boot (Attach o) n = tt
-task_named boot (Unmap o) n = tt
-task_named boot (Write o off bytes) n = tt
-task_named boot (Read o off len) n = tt
-task_named boot (SetState o word) n = tt
-task_named boot (GetState o) n = tt
-task_named boot (Active on) n = tt
-task_named boot Ledger n = tt
-task_named boot Exit n = tt
-task_named boot PurgeOne n = tt
-task_named boot Forced n = tt
-task_named boot Scan n = tt
-task_named boot Tick n = tt
-task_named boot Jetsam n = tt
-task_named boot Info n = tt
-task_named boot Purgeables n = tt
-
-pub fits-asked : (boot : System) (who : ℕ) (call : Call) → IsValidBoot boot → IsTrue (fits boot who call) → IsAsked boot (unwrap_or (task_of boot who) 0) call
-fits-asked boot who call v f =
-    let parts = and_parts (nat_lt who (length boot.sides) && same (is_task_call call) (is_some (task_of boot who))) (names_fit boot call) f in
-    let side = and_parts (nat_lt who (length boot.sides)) (same (is_task_call call) (is_some (task_of boot who))) parts.0 in
-    record {
-      object = named_object boot call parts.1;
-      task = task_named boot call parts.1;
-      caller = λ k. declared_task boot who v (subst (λ b. same b (is_some (task_of boot who)) ≡ true) k side.1);
-    }
 
 -- where at most two numbers pass, they alone count
 pub count-two : (p : ℕ → Bool) (f n : ℕ) → ((k : ℕ) → k < n → p k ≡ true → (k ≡ f) ⊎ (k ≡ f + 1)) → count_by p (range_with_len 0 n) ≡ bit (nat_lt f n && p f) + bit (nat_lt (f + 1) n && p (f + 1))
