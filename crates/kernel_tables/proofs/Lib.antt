@@ -3,7 +3,13 @@ pub mod StartLemmas
 pub mod Kept
 pub mod Counting
 pub mod Dues
+pub mod Asked
 pub mod AskLemmas
+pub mod Refused
+pub mod Objects
+pub mod ObjectCharges
+pub mod Choices
+pub mod Dropped
 pub mod Accepted
 pub mod TaskCalls
 pub mod LimitsCall

@@ -7,6 +7,7 @@ mod beginnings;
 pub mod law;
 mod parts;
 mod placings;
+mod refusals;
 pub mod tables;
 mod tasks;
 mod ticks;
