@@ -50,7 +50,7 @@ info-answer : (boot : System) (past : List Entry) (who : ℕ) → task_of boot w
 unfolding answer refusal
 info-answer boot past who none = rw none refl
 
-active-are : (tables : TableValues) (past : List Entry) → Stands tables past → length (active_keys tables.pages) ≡ active_pages tables.boot past
+pub active-are : (tables : TableValues) (past : List Entry) → Stands tables past → length (active_keys tables.pages) ≡ active_pages tables.boot past
 active-are tables past s = sym (length-map (active_keys tables.pages) page_of) ∙ sym (pages-count tables.boot past is_active _ s.pages.active_order)
 
 pub inactive-are : (tables : TableValues) (past : List Entry) → Stands tables past → length (inactive_keys tables.pages) ≡ inactive_pages tables.boot past
@@ -62,15 +62,15 @@ stored-are tables past s = sym (length-map (stored_keys tables.pages) page_of) �
 abbrev frames_told : ℕ → ℕ → ℕ → ℕ → ℕ → Reply
 frames_told f a i s e = Frames (record { free = f - (a + i); active = a; inactive = i; stored = s; entered = e; left = e - i })
 
-info-told : (tables : TableValues) (past : List Entry) → Stands tables past → frames_told tables.pages.pages.frames (length (active_keys tables.pages)) (length (inactive_keys tables.pages)) (length (stored_keys tables.pages)) tables.pages.entered ≡ frames_reply tables.boot past
+info-told : (tables : TableValues) (past : List Entry) → Stands tables past → frames_told tables.pages.frames (length (active_keys tables.pages)) (length (inactive_keys tables.pages)) (length (stored_keys tables.pages)) tables.entered ≡ frames_reply tables.boot past
 unfolding free left
 info-told tables past s =
     let boot = tables.boot in
-    ap₂ (λ a i. frames_told tables.pages.pages.frames a i (length (stored_keys tables.pages)) tables.pages.entered) (active-are tables past s) (inactive-are tables past s)
-    ∙ ap₂ (λ n e. frames_told tables.pages.pages.frames (active_pages boot past) (inactive_pages boot past) n e) (stored-are tables past s) s.pages.entered
+    ap₂ (λ a i. frames_told tables.pages.frames a i (length (stored_keys tables.pages)) tables.entered) (active-are tables past s) (inactive-are tables past s)
+    ∙ ap₂ (λ n e. frames_told tables.pages.frames (active_pages boot past) (inactive_pages boot past) n e) (stored-are tables past s) s.pages.entered
     ∙ ap (λ f. frames_told f (active_pages boot past) (inactive_pages boot past) (stored_pages boot past) (entered past)) s.pages.frames
 
-pub info-is : (tables : TableValues) (past : List Entry) (who : ℕ) → IsTrue (fits tables.boot who Info) → Stands tables past → frames_told tables.pages.pages.frames (length (active_keys tables.pages)) (length (inactive_keys tables.pages)) (length (stored_keys tables.pages)) tables.pages.entered ≡ answer tables.boot past who Info
+pub info-is : (tables : TableValues) (past : List Entry) (who : ℕ) → IsTrue (fits tables.boot who Info) → Stands tables past → frames_told tables.pages.frames (length (active_keys tables.pages)) (length (inactive_keys tables.pages)) (length (stored_keys tables.pages)) tables.entered ≡ answer tables.boot past who Info
 info-is tables past who f s = info-told tables past s ∙ sym (info-answer tables.boot past who (of_kernel tables.boot who Info refl f))
 
 pub info-stands : (tables : TableValues) (past : List Entry) (who : ℕ) (reply : Reply) → IsTrue (fits tables.boot who Info) → reply ≡ answer tables.boot past who Info → Stands tables past → Stands tables (entry_of who Info reply ∷ past)

@@ -4,3 +4,11 @@ pub mod Kept
 pub mod Counting
 pub mod Dues
 pub mod AskLemmas
+pub mod PageKeys
+pub mod PageMoves
+pub mod Charges
+pub mod OnlyPages
+pub mod Owners
+pub mod Recharges
+pub mod ScanMoves
+pub mod Touches

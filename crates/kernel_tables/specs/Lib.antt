@@ -1,3 +1,4 @@
 pub mod Values
 pub mod Start
 pub mod Stands
+pub mod Moves

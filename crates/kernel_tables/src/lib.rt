@@ -4,6 +4,8 @@
 
 mod asks;
 mod beginnings;
+mod charging;
 pub mod law;
 mod parts;
+mod scans;
 pub mod tables;
