@@ -20,3 +20,11 @@ pub mod Positions
 pub mod TickCall
 pub mod VerdictLemmas
 pub mod VerdictCall
+pub mod PageKeys
+pub mod PageMoves
+pub mod Charges
+pub mod OnlyPages
+pub mod Owners
+pub mod Recharges
+pub mod ScanMoves
+pub mod Touches

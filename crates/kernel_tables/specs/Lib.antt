@@ -4,3 +4,4 @@ pub mod Stands
 pub mod Verdicts
 pub mod Asked
 pub mod Charges
+pub mod Moves

@@ -4,10 +4,12 @@
 
 mod asks;
 mod beginnings;
+mod charging;
 pub mod law;
 mod parts;
 mod placings;
 mod refusals;
+mod scans;
 pub mod tables;
 mod tasks;
 mod ticks;
