@@ -8,6 +8,10 @@ pub mod AskLemmas
 pub mod Refused
 pub mod Objects
 pub mod ObjectCharges
+pub mod Unmapped
+pub mod ObjectEntries
+pub mod MapCall
+pub mod AttachCall
 pub mod Choices
 pub mod Dropped
 pub mod Accepted
