@@ -14,6 +14,8 @@ pub mod MapCall
 pub mod AttachCall
 pub mod Choices
 pub mod Dropped
+pub mod Emptied
+pub mod Purged
 pub mod Accepted
 pub mod TaskCalls
 pub mod LimitsCall
