@@ -4,7 +4,7 @@
 
 mod asks;
 mod beginnings;
-mod charging;
+mod page_charges;
 pub mod law;
 mod parts;
 mod placings;
