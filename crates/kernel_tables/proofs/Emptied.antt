@@ -1,4 +1,4 @@
--- What an entry that empties one object makes of the pages, of the pages that left and of the objects.
+-- What an entry that empties one object makes of the pages, of the pages that left, of the objects and of the accounts.
 use Rattle.std.proofs.Common.{◌≡◌, ℕ, suc, ◌+◌, ◌-◌, ◌<◌, ◌≤◌, List, [], ◌∷◌, length, map, set, get_or, replicate, refl, sym, ap, ap₂, ◌∙◌, subst, Bool, true, false, not, ◌&&◌, nat_eq, if◌then◌else◌, inl, inr, ◌⊎◌, arith, zero-le}
 use Rattle.std.specs.Prelude.{slice_index_or}
 use Rattle.std.proofs.lemmas.Bool.{true≢false}
@@ -8,6 +8,7 @@ use Rattle.kern_ids.specs.declared.entries.Entry.{Entry}
 use Rattle.kern_ids.specs.declared.ids.PageId.{PageId}
 use Rattle.kern_ids.specs.declared.calls.State.{State}
 use Rattle.kern_ids.specs.declared.calls.State.TheVariants.{Empty}
+use Rattle.kern_ids.specs.declared.replies.Counts.{Counts}
 use Rattle.kern_ids.specs.declared.replies.Reply.{Reply}
 use Rattle.kern_ids.specs.declared.replies.Reply.TheVariants.{Moved}
 use Rattle.kern_ids.specs.declared.replies.Move.TheVariants.{Deactivated, Reactivated, Freed, Compressed, Requeued}
@@ -15,21 +16,27 @@ use Rattle.kernel_model.specs.declared.place.Place.{Place}
 use Rattle.kernel_model.specs.declared.place.Placed.{Placed}
 use Rattle.kernel_model.specs.System.{System}
 use Rattle.kernel_model.specs.Valid.{IsValidBoot}
-use Rattle.kernel_model.specs.Mapping.{maps, mapped}
+use Rattle.kernel_model.specs.Mapping.{maps, mapped, owner}
 use Rattle.kernel_model.specs.State.{state}
-use Rattle.kernel_model.specs.Pages.{place, placed, pages_of, written, entered, next_entered, inactive_pages, is_inactive, is_deactivation, left, moved_to}
-use Rattle.kernel_model.specs.Laws.Frames.{bit}
+use Rattle.kernel_model.specs.Pages.{place, placed, pages_of, is_stored, written, entered, next_entered, inactive_pages, is_inactive, is_deactivation, left, moved_to}
+use Rattle.kernel_model.specs.Bands.{Limits}
+use Rattle.kernel_model.specs.Counted.{counts}
+use Rattle.kernel_model.specs.Laws.Frames.{bit, is_in, pages_at}
 use Rattle.kernel_model.specs.Laws.Order.{Has}
 use Rattle.kernel_model.proofs.Laws.Bounds.{counted-le, left-rises}
 use Rattle.kernel_model.proofs.Laws.Counting.{count_by-none}
-use Rattle.kernel_model.proofs.Laws.Kept.{mapped-kept}
+use Rattle.kernel_model.proofs.Laws.Kept.{mapped-kept, owner-kept}
 use Rattle.kernel_model.proofs.Laws.Pages.{placed-none, entered-more, left-is}
 use Rattle.page_queues.specs.Pages.{Pages, is_marked, is_of_first, without_object, inactive as inactive_keys}
 use Rattle.page_queues.specs.Tallies.{count_of}
 use Rattle.vm_object.specs.Objects.{Object, object_at, no_object, no_page, purged, changed}
+use Rattle.task_ledger.specs.declared.account.Account.{Account}
+use Rattle.task_ledger.specs.Accounts.{account_of, counts_less, counts_plus, no_pages}
+use Rattle.kernel_tables.specs.Charges.{charge, charge_of, owed, is_owner, relieved}
 use Rattle.kernel_tables.specs.Emptying.{IsEmptying}
-use Rattle.kernel_tables.specs.Stands.{PagesStand, ObjectsStand}
+use Rattle.kernel_tables.specs.Stands.{PagesStand, ObjectsStand, AccountsStand, IsAccount}
 use Rattle.kernel_tables.proofs.Lists.{get_or-same}
+use Rattle.kernel_tables.proofs.ObjectCharges.{counts-object, relieved-at, length-relieved}
 use Rattle.kernel_tables.proofs.Dropped.{pages-dropped, inactive-dropped}
 
 -- no more pages are Inactive than were ever deactivated
@@ -88,6 +95,24 @@ state_purged : (b : Bool) (x : Object) → (if b then purged x else x).state ≡
 state_purged true x = refl
 state_purged false x = refl
 
+abbrev mk_counts : ℕ → ℕ → ℕ → ℕ → ℕ → Counts
+mk_counts a b c d f = record { res_non = a; res_vol = b; com_non = c; com_vol = d; footprint = f }
+
+plus_none : (c : Counts) → counts_plus c no_pages ≡ c
+plus_none c =
+    let a : c.res_non + 0 ≡ c.res_non = omega arith in
+    let b : c.res_vol + 0 ≡ c.res_vol = omega arith in
+    let d : c.com_non + 0 ≡ c.com_non = omega arith in
+    let v : c.com_vol + 0 ≡ c.com_vol = omega arith in
+    let f : c.footprint + 0 ≡ c.footprint = omega arith in
+    ap₂ (λ (x y : ℕ). mk_counts x y (c.com_non + 0) (c.com_vol + 0) (c.footprint + 0)) a b
+    ∙ ap₂ (λ (x y : ℕ). mk_counts c.res_non c.res_vol x y (c.footprint + 0)) d v
+    ∙ ap (mk_counts c.res_non c.res_vol c.com_non c.com_vol) f
+
+none_either : (b : Bool) → (if b then no_pages else no_pages) ≡ no_pages
+none_either true = refl
+none_either false = refl
+
 module _ (boot : System) (e : Entry) (before : List Entry) (o : ℕ) (is : IsEmptying boot e before o) where
   pub mapped-emptied : (x : ℕ) → mapped boot (e ∷ before) x ≡ mapped boot before x
   mapped-emptied x = mapped-kept boot e before x (is.mappers_kept x)
@@ -138,3 +163,37 @@ module _ (boot : System) (e : Entry) (before : List Entry) (o : ℕ) (is : IsEmp
         let now = left-is boot (e ∷ before) in
         let same = is.none_entered in
         omega (arith, i, few, was, now, same)
+
+  -- the accounts: the object's charge is off the account of its owner
+  states_other : (x : ℕ) → nat_eq o x ≡ false → state (e ∷ before) x ≡ state before x
+  states_other x h = is.states x ∙ ap (λ b. if b then Empty else state before x) h
+
+  empty : state (e ∷ before) o ≡ Empty
+  empty = (let same : nat_eq o o ≡ true = grind (arith, nat_tests) in is.states o ∙ ap (λ b. if b then Empty else state before o) same)
+
+  nothing_owed : (t : ℕ) → owed (owner boot (e ∷ before) o) (charge_of boot (e ∷ before) o) t ≡ no_pages
+  nothing_owed t =
+      ap (λ (x : State). owed (owner boot (e ∷ before) o) (charge x (pages_at boot (e ∷ before) is_in o) (pages_at boot (e ∷ before) is_stored o)) t) empty
+      ∙ none_either (is_owner (owner boot (e ∷ before) o) t)
+
+  counts-emptied : o < length boot.objects → (t : ℕ) → counts boot (e ∷ before) t ≡ counts_less (counts boot before t) (owed (owner boot before o) (charge_of boot before o) t)
+  counts-emptied l t =
+      counts-object boot e before o l (λ x h. owner-kept boot e before x (is.mappers_kept x)) states_other (λ x h n. ap (λ (y : Placed). y.place) (is.places_kept (record { obj = x; page = n }) h)) t
+      ∙ ap (counts_plus (counts_less (counts boot before t) (owed (owner boot before o) (charge_of boot before o) t))) (nothing_owed t)
+      ∙ plus_none (counts_less (counts boot before t) (owed (owner boot before o) (charge_of boot before o) t))
+
+  pub accounts-emptied : (accounts : List Account) → o < length boot.objects → AccountsStand boot before accounts → AccountsStand boot (e ∷ before) (relieved (owner boot before o) (charge_of boot before o) accounts)
+  accounts-emptied accounts l s = record {
+    account_count = length-relieved (owner boot before o) (charge_of boot before o) accounts ∙ s.account_count;
+    accounts = λ t m.
+        (let inside : t < length accounts = (let n = s.account_count in omega (arith, n)) in
+        let a = s.accounts t m in
+        subst (IsAccount boot (e ∷ before) t) (sym (relieved-at (owner boot before o) (charge_of boot before o) accounts t inside)) (record {
+          live = a.live ∙ sym (is.lives_kept t);
+          counts = ap (λ (c : Counts). counts_less c (owed (owner boot before o) (charge_of boot before o) t)) a.counts ∙ sym (counts-emptied l t);
+          active = a.active ∙ sym (is.activity_kept t);
+          when_active = a.when_active ∙ sym (ap (λ (x : Limits). x.when_active) (is.limits_kept t));
+          when_inactive = a.when_inactive ∙ sym (ap (λ (x : Limits). x.when_inactive) (is.limits_kept t));
+          internal = a.internal;
+        }));
+  }

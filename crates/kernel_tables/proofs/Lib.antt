@@ -10,12 +10,16 @@ pub mod Objects
 pub mod ObjectCharges
 pub mod Unmapped
 pub mod ObjectEntries
+pub mod ObjectCalls
 pub mod MapCall
 pub mod AttachCall
+pub mod SetQueues
+pub mod SetEntry
 pub mod Choices
 pub mod Dropped
 pub mod Emptied
 pub mod Purged
+pub mod PurgeSteps
 pub mod Accepted
 pub mod TaskCalls
 pub mod LimitsCall

@@ -4,5 +4,7 @@ pub mod Stands
 pub mod Verdicts
 pub mod Asked
 pub mod Emptying
+pub mod Picked
 pub mod Charges
 pub mod Moves
+pub mod Settings

@@ -5,11 +5,14 @@
 mod asks;
 mod beginnings;
 mod page_charges;
+mod charging;
 pub mod law;
+mod mapping;
 mod parts;
 mod placings;
 mod refusals;
 mod scans;
+mod purges;
 pub mod tables;
 mod tasks;
 mod ticks;
