@@ -4,8 +4,14 @@
 
 mod asks;
 mod beginnings;
+mod charging;
 pub mod law;
 mod parts;
+mod placings;
 mod purges;
+mod refusals;
+mod scans;
 pub mod tables;
 mod tasks;
+mod ticks;
+mod verdicts;
