@@ -150,9 +150,7 @@ impl Parts {
     {
         self.boot.valid();
         self.objects.groups.are_groups();
-        self.objects
-            .tokens
-            .take_ripe(p.token_queue, p.object_queue);
+        self.objects.tokens.take_ripe(p.token_queue, p.object_queue);
         let _queue = self.objects.groups.remove(p.obj);
         self.empty_object(p.obj);
         Reply::Purged(p.obj)
