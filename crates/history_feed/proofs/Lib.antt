@@ -1,0 +1,7 @@
+pub mod Splits
+pub mod LeftLaws
+pub mod Whole
+pub mod Lengths
+pub mod LongLaws
+pub mod KeptLaws
+pub mod FeedLaws
