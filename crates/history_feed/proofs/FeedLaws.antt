@@ -1,6 +1,7 @@
 -- What a feed keeps, and what it gives.
 use Rattle.std.proofs.Common.{◌≡◌, ℕ, ◌+◌, ◌<◌, ◌≤◌, Bool, true, false, cond, eqb, List, [], ◌∷◌, ◌++◌, length, take, Option, Some, None, Result, Ok, Err, refl, sym, ap, ◌∙◌, arith, subst, append-nil, append_assoc}
 use Rattle.std.specs.Prelude.{codes, option_to_list}
+use Rattle.std.specs.Option.{IfSome}
 use Rattle.std.specs.Str.{bytes_eq}
 use Rattle.std.proofs.lemmas.Bool.{eqb-true}
 use Rattle.std.proofs.lemmas.List.{length-append, take_all}
@@ -20,9 +21,10 @@ use Rattle.history_feed.specs.declared.feed.HistoryFeed.{HistoryFeed}
 use Rattle.history_feed.specs.Lines.{ended_of, rest_of, line_end}
 use Rattle.history_feed.specs.Kept.{kept_of}
 use Rattle.history_feed.specs.Left.{Fault, Place, said_entry, said_of, moved, over, one_byte, left_by, rest_behind, whole_of, whole_at}
-use Rattle.history_feed.specs.Feeds.{Keeps, KeepsLeft, IsEnded, StandsFor, Gives, given_by, taken_until, taken_of, count_of}
+use Rattle.history_feed.specs.Feeds.{Keeps, KeepsLeft, IsEnded, StandsFor, Gives, IsFed, IsTextOf, entry_ended, given_by, taken_until, taken_of, count_of}
 use Rattle.history_feed.proofs.Splits.{first-part}
 use Rattle.history_feed.proofs.LeftLaws.{place, fault, begun, left-cut, more-rest, more-place, line-rest, line-place, left-fault}
+use Rattle.history_feed.proofs.SaysLaws.{says-entry}
 use Rattle.history_feed.proofs.Whole.{whole-left}
 
 -- ---- how far bytes are taken
@@ -65,7 +67,7 @@ no-feed piece part others cut = first-part (λ b. eqb b 10) piece part (lines_of
 
 -- ---- what is left where there is no fault
 
-none_is : (x : Option Fault) (d : Fault) → x ≡ None → x ≡ Some d → ⊥
+pub none_is : (x : Option Fault) (d : Fault) → x ≡ None → x ≡ Some d → ⊥
 none_is x d e h = absurd cc
 
 abbrev AtPlace : HistoryFeed → List ℕ → Type 0
@@ -153,32 +155,73 @@ one-gives next.Nothing p = refl
 gives-same : (given : Option Entry) (a b c d : Result Place Fault) → a ≡ b → c ≡ d → Gives given b d → Gives given a c
 gives-same given a b c d e1 e2 h = subst (λ (l : Result Place Fault). Gives given l c) (sym e1) (subst (λ (l : Result Place Fault). Gives given b l) (sym e2) h)
 
--- what holds of the feed and of the entry given behind more bytes
-pub record IsFed (old new : HistoryFeed) (given : Option Entry) (text taken : List ℕ) : Type 0 where
-  pub stands : StandsFor new (text ++ taken)
-  pub gives : Gives given (left_by old.first text) (left_by old.first (text ++ taken))
+-- ---- the entry of a line
 
-pub fed-line : (old new : HistoryFeed) (given : Option Entry) (text part : List ℕ) → lines_of part ≡ part ∷ [] → new.first ≡ old.first → old.fault ≡ None → StandsFor old text
-    → ((p : Place) → Keeps old p (rest_behind text) → IsEnded new given p (said_of p.next (length p.entries) (rest_behind text ++ part))) → IsFed old new given text (part ++ 10 ∷ [])
-fed-line old new given text part none first sound h step =
+if_some : (P : Entry → Type 0) (given : Option Entry) → ((e : Entry) → given ≡ Some e → P e) → IfSome given P
+if_some P None h = tt
+if_some P (Some e) h = h e refl
+
+entry_by : (rest part others : List ℕ) (p : Place) (lines : List (List ℕ)) → lines_of others ≡ lines → entry_ended (Ok p) rest (part ∷ lines) ≡ given_by (said_of p.next (length p.entries) (rest ++ part))
+entry_by rest part others p [] e = absurd (some_part (λ b. eqb b 10) others e)
+entry_by rest part others p (line ∷ lines) e = refl
+
+opening-none : (b : Bool) (e : Entry) → given_by (cond b (Ok (record { expected = next.Entries; entry = None })) (Err why.Word)) ≡ Some e → ⊥
+opening-none true e h = absurd cc
+opening-none false e h = absurd cc
+
+given-says : (count : ℕ) (line : List ℕ) (r : Result (Option Entry) Why) (e : Entry) → line_says count line ≡ r → given_by (said_entry r) ≡ Some e → IsTextOf (line ++ 10 ∷ []) e
+given-says count line (Ok (Some x)) e is gave =
+    let same : x ≡ e = cc in
+    let t = says-entry count line x is in
+    subst (IsTextOf (line ++ 10 ∷ [])) same (record { text = ap (λ (l : List ℕ). l ++ 10 ∷ []) t.0; sound = t.1 })
+given-says count line (Ok None) e is gave = absurd cc
+given-says count line (Err d) e is gave = absurd cc
+
+given-text : (x : Expected) (count : ℕ) (line : List ℕ) (e : Entry) → given_by (said_of x count line) ≡ Some e → IsTextOf (line ++ 10 ∷ []) e
+given-text next.Opening count line e gave = absurd (opening-none (bytes_eq line (codes "history")) e gave)
+given-text next.Entries count line e gave = given-says count line (line_says count line) e refl gave
+given-text next.Nothing count line e gave = absurd cc
+
+given-written : (given : Option Entry) (p : Place) (rest part : List ℕ) → given ≡ given_by (said_of p.next (length p.entries) (rest ++ part)) → IfSome given (IsTextOf (rest ++ (part ++ 10 ∷ [])))
+given-written given p rest part gave =
+    if_some (IsTextOf (rest ++ (part ++ 10 ∷ []))) given
+    (λ e is. subst (λ (t : List ℕ). IsTextOf t e) (append_assoc rest part (10 ∷ [])) (given-text p.next (length p.entries) (rest ++ part) e (sym gave ∙ is)))
+
+-- ---- what is fed
+
+entry-last : (left : Result Place Fault) (rest last : List ℕ) → entry_ended left rest (last ∷ []) ≡ None
+entry-last (Ok p) rest last = refl
+entry-last (Err f) rest last = refl
+
+pub fed-line : (old new : HistoryFeed) (given : Option Entry) (text piece part others : List ℕ) → lines_of piece ≡ part ∷ lines_of others → new.first ≡ old.first → old.fault ≡ None → StandsFor old text
+    → ((p : Place) → Keeps old p (rest_behind text) → IsEnded new given p (said_of p.next (length p.entries) (rest_behind text ++ part))) → IsFed old new given text piece (part ++ 10 ∷ [])
+fed-line old new given text piece part others cut first sound h step =
+    let none = no-feed piece part others cut in
     let at = at-place old text sound h in
     let p = at.0 in
-    let said = said_of p.next (length p.entries) (rest_behind text ++ part) in
+    let rest = rest_behind text in
+    let said = said_of p.next (length p.entries) (rest ++ part) in
     let i = step p at.2 in
     let left : left_by old.first (text ++ (part ++ 10 ∷ [])) ≡ moved p said = line-place old.first text part p none at.1 in
+    let entry : entry_ended (left_by old.first text) rest (lines_of piece) ≡ given_by said =
+      ap (λ (l : Result Place Fault). entry_ended l rest (lines_of piece)) at.1 ∙ ap (entry_ended (place p) rest) cut ∙ entry_by rest part others p (lines_of others) refl in
     record {
       stands = stands-place new old.first (text ++ (part ++ 10 ∷ [])) (moved p said) [] first left (line-rest text part none) i.stands;
+      entry = i.entry ∙ sym entry;
+      written = given-written given p rest part i.entry;
       gives = gives-same given (left_by old.first text) (place p) (left_by old.first (text ++ (part ++ 10 ∷ []))) (moved p said) at.1 left (subst (λ (e : Option Entry). Gives e (place p) (moved p said)) (sym i.entry) (moved-gives p said));
     }
 
 pub fed-part : (old new : HistoryFeed) (text part : List ℕ) → lines_of part ≡ part ∷ [] → 0 < length part → new.first ≡ old.first → old.fault ≡ None → StandsFor old text
-    → ((p : Place) → Keeps old p (rest_behind text) → KeepsLeft new (one_byte p.next p) (rest_behind text ++ part)) → IsFed old new None text part
+    → ((p : Place) → Keeps old p (rest_behind text) → KeepsLeft new (one_byte p.next p) (rest_behind text ++ part)) → IsFed old new None text part part
 fed-part old new text part none some first sound h step =
     let at = at-place old text sound h in
     let p = at.0 in
     let left : left_by old.first (text ++ part) ≡ one_byte p.next p = more-place old.first text part p none at.1 some in
     record {
       stands = stands-place new old.first (text ++ part) (one_byte p.next p) (rest_behind text ++ part) first left (more-rest text part none) (step p at.2);
+      entry = sym (ap (entry_ended (left_by old.first text) (rest_behind text)) none ∙ entry-last (left_by old.first text) (rest_behind text) part);
+      written = tt;
       gives = gives-same None (left_by old.first text) (place p) (left_by old.first (text ++ part)) (one_byte p.next p) at.1 left (one-gives p.next p);
     }
 
@@ -186,20 +229,26 @@ same-gives : (left : Result Place Fault) → Gives None left left
 same-gives (Ok p) = sym (append-nil p.entries)
 same-gives (Err d) = refl
 
-pub fed-none : (f : HistoryFeed) (text : List ℕ) → StandsFor f text → IsFed f f None text []
-fed-none f text h =
+pub fed-none : (f : HistoryFeed) (text piece : List ℕ) → eqb (length piece) 0 ≡ true → StandsFor f text → IsFed f f None text piece []
+fed-none f text [] e h =
     let same : text ++ [] ≡ text = append-nil text in
     record {
       stands = subst (StandsFor f) (sym same) h;
+      entry = sym (entry-last (left_by f.first text) (rest_behind text) []);
+      written = tt;
       gives = subst (λ (t : List ℕ). Gives None (left_by f.first text) (left_by f.first t)) (sym same) (same-gives (left_by f.first text));
     }
+fed-none f text (b ∷ bs) e h = let none : length (b ∷ bs) ≡ 0 = eqb-true _ _ e in absurd (omega arith)
 
-pub fed-fault : (f : HistoryFeed) (text piece : List ℕ) (d : Fault) → f.fault ≡ Some d → StandsFor f text → IsFed f f None text piece
-fed-fault f text piece d some h =
-    let left : left_by f.first (text ++ piece) ≡ Err d = left-fault f.first text piece d (at-fault f text d some h) in
+pub fed-fault : (f : HistoryFeed) (text piece taken : List ℕ) (d : Fault) → f.fault ≡ Some d → StandsFor f text → IsFed f f None text piece taken
+fed-fault f text piece taken d some h =
+    let so = at-fault f text d some h in
+    let left : left_by f.first (text ++ taken) ≡ Err d = left-fault f.first text taken d so in
     record {
-      stands = keeps-fault f (left_by f.first (text ++ piece)) d (rest_behind (text ++ piece)) left some;
-      gives = gives-none (left_by f.first text) (left_by f.first (text ++ piece)) d left;
+      stands = keeps-fault f (left_by f.first (text ++ taken)) d (rest_behind (text ++ taken)) left some;
+      entry = sym (ap (λ (l : Result Place Fault). entry_ended l (rest_behind text) (lines_of piece)) so);
+      written = tt;
+      gives = gives-none (left_by f.first text) (left_by f.first (text ++ taken)) d left;
     }
 
 -- ---- the end

@@ -3,5 +3,6 @@ pub mod LeftLaws
 pub mod Whole
 pub mod Lengths
 pub mod LongLaws
+pub mod SaysLaws
 pub mod KeptLaws
 pub mod FeedLaws

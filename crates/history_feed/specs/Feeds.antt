@@ -1,13 +1,15 @@
 -- What a feed stands for.
-use Rattle.std.specs.Prelude.{◌≡◌, ℕ, ◌+◌, ◌<◌, ◌^◌, List, [], ◌∷◌, ◌++◌, length, Option, Some, None, Result, Ok, Err, option_to_list}
+use Rattle.std.specs.Prelude.{◌≡◌, ℕ, ◌+◌, ◌<◌, ◌^◌, List, [], ◌∷◌, ◌++◌, length, Option, Some, None, Result, Ok, Err, IfSome, option_to_list}
 use Rattle.kern_ids.specs.declared.faults.Why.{Why}
 use Rattle.kern_ids.specs.declared.entries.Entry.{Entry}
 use Rattle.line_text.specs.Cut.{lines_of}
+use Rattle.history_text.specs.Entries.{entry_text}
+use Rattle.history_reading.specs.Entries.{HasText}
 use Rattle.history_feed.specs.declared.expected.Said.{Said}
 use Rattle.history_feed.specs.declared.feed.HistoryFeed.{HistoryFeed}
 use Rattle.history_feed.specs.Lines.{rest_of, line_end}
 use Rattle.history_feed.specs.Kept.{kept_of}
-use Rattle.history_feed.specs.Left.{Fault, Place, moved, left_by, rest_behind}
+use Rattle.history_feed.specs.Left.{Fault, Place, said_of, moved, left_by, rest_behind}
 
 -- the number of the line that the feed began with
 abbrev pub first_line_of : HistoryFeed → ℕ
@@ -48,14 +50,34 @@ Gives given (Ok p) (Ok q) = q.entries ≡ p.entries ++ option_to_list given
 Gives given (Err f) (Ok q) = ⊥
 Gives given left (Err f) = given ≡ None
 
--- behind a line in its place: what was said of it is kept, and its entry is given
+-- the entry that a line is said to be, if it is one in its place
 abbrev pub given_by : Result Said Why → Option Entry
 given_by (Ok said) = said.entry
 given_by (Err d) = None
 
+-- the entry whose line is the first that is ended in these lines, behind bytes that leave this
+abbrev pub entry_ended : Result Place Fault → List ℕ → List (List ℕ) → Option Entry
+entry_ended (Ok p) rest [] = None
+entry_ended (Ok p) rest (last ∷ []) = None
+entry_ended (Ok p) rest (line ∷ follows ∷ lines) = given_by (said_of p.next (length p.entries) (rest ++ line))
+entry_ended (Err f) rest lines = None
+
+-- bytes that are the text of an entry, which has one
+pub record IsTextOf (bytes : List ℕ) (e : Entry) : Type 0 where
+  pub text : bytes ≡ entry_text e
+  pub sound : HasText e
+
+-- behind a line: what was said of it is kept, and its entry is given
 pub record IsEnded (f : HistoryFeed) (given : Option Entry) (p : Place) (said : Result Said Why) : Type 0 where
   pub stands : KeepsLeft f (moved p said) []
   pub entry : given ≡ given_by said
+
+-- what holds of the feed and of the entry given behind bytes taken from a piece
+pub record IsFed (old new : HistoryFeed) (given : Option Entry) (text piece taken : List ℕ) : Type 0 where
+  pub stands : StandsFor new (text ++ taken)
+  pub entry : given ≡ entry_ended (left_by old.first text) (rest_behind text) (lines_of piece)
+  pub written : IfSome given (IsTextOf (rest_behind text ++ taken))
+  pub gives : Gives given (left_by old.first text) (left_by old.first (text ++ taken))
 
 -- the number of entries of a text that was read
 abbrev pub count_of : Result (List Entry) Fault → Result ℕ Fault

@@ -2,10 +2,11 @@
 
 ghost use Rattle.std.specs.Prelude.{◌≡◌, ◌<◌, ◌≤◌, ◌+◌, ◌-◌, ◌++◌, ◌^◌, ℕ, List, [], length, take, Option, Some, None, Ok, Err, IfOk, IfSome, option_to_list};
 ghost use Rattle.line_text.specs.Cut.{lines_of};
+ghost use Rattle.history_reading.specs.Entries.{HasText};
 ghost use Rattle.history_reading.specs.Histories.{history_of};
 ghost use Rattle.history_feed.specs.Kept.{kept_of};
-ghost use Rattle.history_feed.specs.Left.{Place, said_of, left_by, one_byte};
-ghost use Rattle.history_feed.specs.Feeds.{first_line_of, Keeps, KeepsLeft, IsEnded, StandsFor, HasRoom, taken_of, Gives, count_of};
+ghost use Rattle.history_feed.specs.Left.{Place, said_of, left_by, rest_behind, one_byte, whole_of};
+ghost use Rattle.history_feed.specs.Feeds.{first_line_of, Keeps, KeepsLeft, IsEnded, StandsFor, HasRoom, taken_of, entry_ended, IsTextOf, Gives, IsFed, count_of};
 
 use crate::expected::{Expected, Said};
 use crate::kept_line::KeptLine;
@@ -36,6 +37,7 @@ pub struct HistoryFeed {
 fn line_says(expected: Expected, count: u32, line: &KeptLine) -> Result<Said, Why>
     ensures value { (text : List ℕ) → line.now ≡ kept_of text → said_of expected count text ≡ result }
     ensures room { IfOk result (λ said. IfSome said.entry (λ _. count < 200000)) }
+    ensures text { IfOk result (λ said. IfSome said.entry HasText) }
 {
     match expected {
         Expected::Opening => {
@@ -98,6 +100,7 @@ impl HistoryFeed {
     // The line that is kept is ended: its entry, if it is one in its place.
     fn end_line(&mut self) -> Option<Entry>
         requires { self.old.line + 1 < 2 ^ 32 }
+        ensures text { IfSome result HasText }
         ensures ended { (p : Place) (line : List ℕ) → Keeps self.old p line → IsEnded self.new result p (said_of p.next (length p.entries) line) }
         ensures first { self.new.first ≡ self.old.first }
         ensures line { self.new.line ≤ self.old.line + 1 }
@@ -140,10 +143,10 @@ impl HistoryFeed {
         ensures taken { result.taken ≡ taken_of self.old piece.now }
         ensures within { result.taken ≤ length piece.now }
         ensures some { 0 < length piece.now → 0 < result.taken }
+        ensures room { (more : ℕ) → HasRoom self.old (result.taken + more) → HasRoom self.new more }
         ensures first { self.new.first ≡ self.old.first }
-        ensures room { HasRoom self.new (length piece.now - result.taken) }
-        ensures stands { (text : List ℕ) → StandsFor self.old text → StandsFor self.new (text ++ take result.taken piece.now) }
-        ensures gives { (text : List ℕ) → StandsFor self.old text → Gives result.entry (left_by self.old.first text) (left_by self.old.first (text ++ take result.taken piece.now)) }
+        ensures text { IfSome result.entry HasText }
+        ensures fed { (text : List ℕ) → StandsFor self.old text → IsFed self.old self.new result.entry text piece.now (take result.taken piece.now) }
     {
         if piece.is_empty() {
             return Fed {
@@ -174,16 +177,24 @@ impl HistoryFeed {
     /// fault before. The others are to be fed again.
     pub fn feed(&mut self, piece: &[u8]) -> Fed
         requires { HasRoom self.old (length piece.now) }
-        // How many bytes are taken.
+
+        // How many bytes are taken: none only of an empty piece.
         ensures taken { result.taken ≡ taken_of self.old piece.now }
         ensures within { result.taken ≤ length piece.now }
         ensures some { 0 < length piece.now → 0 < result.taken }
-        // There is room for those that are left.
-        ensures room { HasRoom self.new (length piece.now - result.taken) }
+        // Where there was room for more bytes, there still is.
+        ensures room { (more : ℕ) → HasRoom self.old (result.taken + more) → HasRoom self.new more }
+
+        // Whatever bytes it stood for, it stands for those and the bytes taken.
         ensures first { first_line_of self.new ≡ first_line_of self.old }
-        // It stands for the bytes so far and those taken.
         ensures stands { (text : List ℕ) → StandsFor self.old text → StandsFor self.new (text ++ take result.taken piece.now) }
-        // The entry is the one by which the entries grew.
+
+        // The entry is that of the line that is ended, if it is one in its place and there is no fault.
+        ensures entry { (text : List ℕ) → StandsFor self.old text → result.entry ≡ entry_ended (left_by (first_line_of self.old) text) (rest_behind text) (lines_of piece.now) }
+        // Its text is that line.
+        ensures written { (text : List ℕ) → StandsFor self.old text → IfSome result.entry (IsTextOf (rest_behind text ++ take result.taken piece.now)) }
+        ensures text { IfSome result.entry HasText }
+        // By it the entries grow.
         ensures gives { (text : List ℕ) → StandsFor self.old text → Gives result.entry (left_by (first_line_of self.old) text) (left_by (first_line_of self.old) (text ++ take result.taken piece.now)) }
     {
         match self.fault {
@@ -197,7 +208,9 @@ impl HistoryFeed {
 
     /// The number of entries of the text, or the line of its first fault and why it is refused.
     pub fn finish(self) -> Result<u32, (u32, Why)>
-        ensures { (text : List ℕ) → StandsFor self text → result ≡ count_of (history_of (first_line_of self) text) }
+        ensures exact { (text : List ℕ) → StandsFor self text → result ≡ count_of (history_of (first_line_of self) text) }
+        // What a text is as a whole is what it leaves where it stops.
+        ensures whole { (text : List ℕ) → history_of (first_line_of self) text ≡ whole_of (left_by (first_line_of self) text) }
     {
         match self.fault {
             Some(fault) => Err(fault),

@@ -4,6 +4,7 @@ ghost use Rattle.std.specs.Prelude.{◌≡◌, ◌<◌, ◌+◌, ◌++◌, ◌^�
 ghost use Rattle.std.specs.List.{list_any, list_all};
 ghost use Rattle.std.specs.Char.{is_ascii_digit};
 ghost use Rattle.std.specs.Str.{bytes_eq};
+ghost use Rattle.history_reading.specs.Entries.{HasText};
 ghost use Rattle.history_reading.specs.Histories.{line_says};
 ghost use Rattle.history_feed.specs.Kept.{kept_of};
 
@@ -103,6 +104,7 @@ impl KeptLine {
     pub fn says(&self, count: u32) -> Result<Option<Entry>, Why>
         ensures value { (line : List ℕ) → self.now ≡ kept_of line → line_says count line ≡ result }
         ensures room { IfOk result (λ said. IfSome said (λ _. count < 200000)) }
+        ensures text { IfOk result (λ said. IfSome said HasText) }
     {
         if self.len <= MOST {
             take_line(count as usize, self.head.as_slice())

@@ -7,5 +7,7 @@ mod feed;
 mod held;
 mod kept_line;
 mod long_line;
+#[cfg(test)]
+mod tests;
 
 pub use feed::{Fed, HistoryFeed};
