@@ -1,5 +1,5 @@
 -- A history without a fault is legal, and its scripts are begun; and the other way round.
-use Rattle.std.proofs.Common.{◌≡◌, ℕ, zero, suc, ◌+◌, ◌<◌, ◌≤◌, List, [], ◌∷◌, ◌++◌, length, map, take, drop, reverse, Bool, true, false, ◌&&◌, nat_eq, nat_lt, Option, Some, None, IsTrue, refl, sym, ap, ap₂, ◌∙◌, subst, arith, inl, inr, length-append}
+use Rattle.std.proofs.Common.{◌≡◌, ℕ, ◌+◌, ◌<◌, ◌≤◌, List, [], ◌∷◌, ◌++◌, length, drop, reverse, Bool, true, false, nat_eq, nat_lt, Option, Some, None, IsTrue, refl, sym, ap, ap₂, ◌∙◌, subst, arith, inl, inr, length-append}
 use Rattle.std.specs.Prelude.{filter, slice_get}
 use Rattle.std.specs.Option.{option_map_or, unwrap_or}
 use Rattle.std.specs.List.{range_with_len, AllByRecursion}
@@ -11,7 +11,7 @@ use Rattle.kern_ids.specs.declared.entries.Entry.{Entry}
 use Rattle.kern_ids.specs.declared.calls.Call.{Call}
 use Rattle.kernel_model.specs.Answers.{answer}
 use Rattle.kernel_model.specs.Histories as histories
-use Rattle.kernel_model.specs.Lists.{first_some, some_if}
+use Rattle.kernel_model.specs.Lists.{some_if}
 use Rattle.kernel_model.specs.Scenario.{Plan, IsValid, script}
 use Rattle.slow_kernel.specs.ObjectTables.{or_else}
 use Rattle.replay_check.specs.declared.verdicts.Verdict.{Verdict}
@@ -104,8 +104,8 @@ begun-push s es e begun next =
       scripts = λ n l. elim (cases_eq e.who n) [
         | inl same ↦
             let here : slice_get (script s n) (length (calls_of (of_thread n es))) ≡ Some e.call =
-              ap (slice_get (script s n)) (length-map (of_thread n es) (λ (x : Entry). x.call))
-              ∙ ap (λ (m : ℕ). slice_get (script s m) (length (of_thread m es))) (sym same) ∙ p.1 in
+            ap (slice_get (script s n)) (length-map (of_thread n es) (λ (x : Entry). x.call))
+            ∙ ap (λ (m : ℕ). slice_get (script s m) (length (of_thread m es))) (sym same) ∙ p.1 in
             subst (λ (calls : List Call). AreFirst calls (script s n)) (sym (calls-own n es e same))
             (begins-more (calls_of (of_thread n es)) (script s n) e.call (begun.scripts n l) here)
         | inr other ↦ subst (λ (own : List Entry). AreFirst (calls_of own) (script s n)) (sym (of_thread-other n es e other)) (begun.scripts n l)
@@ -123,9 +123,10 @@ begun-from s v (e ∷ before) h =
     let rest = begun-from s v before parts.0 in
     let right = right-entry s es e parts.1 in
     let reply : e.reply ≡ answer s.boot before e.who e.call =
-      same_reply-true e.reply (reply_due s es e) right.1 ∙ ap (λ (past : List Entry). answer s.boot past e.who e.call) (reverse-reverse before) in
-    ((call_at-fits s e.who e.call (length (of_thread e.who es)) v right.0, reply, rest.0),
-    subst (IsBegun s) (sym (order-more e before)) (begun-push s es e rest.1 right.0))
+    same_reply-true e.reply (reply_due s es e) right.1 ∙ ap (λ (past : List Entry). answer s.boot past e.who e.call) (reverse-reverse before) in (
+      (call_at-fits s e.who e.call (length (of_thread e.who es)) v right.0, reply, rest.0),
+      subst (IsBegun s) (sym (order-more e before)) (begun-push s es e rest.1 right.0),
+    )
 
 begun-pop : (s : Plan) (es : List Entry) (e : Entry) → IsBegun s (es ++ e ∷ []) → IsBegun s es
 begun-pop s es e begun = record {
@@ -143,7 +144,7 @@ begun-last s es e begun =
     let n : ℕ = e.who in
     let l : n < length s.scripts = all-last (λ (x : Entry). x.who < length s.scripts) es e begun.declared in
     let first : AreFirst (calls_of (of_thread n es) ++ e.call ∷ []) (script s n) =
-      subst (λ (calls : List Call). AreFirst calls (script s n)) (calls-own n es e refl) (begun.scripts n l) in
+    subst (λ (calls : List Call). AreFirst calls (script s n)) (calls-own n es e refl) (begun.scripts n l) in
     call_at-from s n e.call (length (of_thread n es)) l
     (ap (slice_get (script s n)) (sym (length-map (of_thread n es) (λ (x : Entry). x.call))) ∙ begins-next (calls_of (of_thread n es)) (script s n) e.call first)
 
@@ -182,9 +183,9 @@ whole-from : (s : Plan) (h : List Entry) → IsBegun s h → unspent s h ≡ Non
 whole-from s h begun none = record {
   declared = begun.declared;
   scripts = λ n l. nothing-behind (calls_of (of_thread n h)) (script s n) (begun.scripts n l)
-    (let spent : length (script s n) ≤ length (of_thread n h) = spent-at s h none n l in
-    let long : length (calls_of (of_thread n h)) ≡ length (of_thread n h) = length-map (of_thread n h) (λ (x : Entry). x.call) in
-    omega arith);
+      (let spent : length (script s n) ≤ length (of_thread n h) = spent-at s h none n l in
+      let long : length (calls_of (of_thread n h)) ≡ length (of_thread n h) = length-map (of_thread n h) (λ (x : Entry). x.call) in
+      omega arith);
 }
 
 begun-whole : (s : Plan) (h : List Entry) → IsWhole s h → IsBegun s h
@@ -226,5 +227,5 @@ pub legal-verdict : (s : Plan) (h : List Entry) → histories.Legal s.boot h →
 unfolding verdict_of
 legal-verdict s h legal w =
     let none : first_fault s h ≡ None =
-      ap (first_fault s) (sym (reverse-reverse h)) ∙ unfaulty s (reverse h) legal (subst (IsBegun s) (sym (reverse-reverse h)) (begun-whole s h w)) in
+    ap (first_fault s) (sym (reverse-reverse h)) ∙ unfaulty s (reverse h) legal (subst (IsBegun s) (sym (reverse-reverse h)) (begun-whole s h w)) in
     ap₂ (λ (f : Option Verdict) (u : Option ℕ). unwrap_or f (option_map_or Missing u Legal)) none (spent-whole s h w)

@@ -8,11 +8,10 @@ use Rattle.std.proofs.lemmas.Bool.{cases_eq}
 use Rattle.std.proofs.lemmas.List.{take-append-le}
 use Rattle.kern_ids.specs.declared.entries.Entry.{Entry}
 use Rattle.kern_ids.specs.declared.replies.Reply.{Reply}
-use Rattle.kernel_model.specs.Lists.{first_some, some_if}
+use Rattle.kernel_model.specs.Lists.{first_some}
 use Rattle.kernel_model.specs.Scenario.{Plan}
 use Rattle.slow_kernel.specs.ObjectTables.{or_else}
 use Rattle.slow_kernel.proofs.Firsts.{first_some_more}
-use Rattle.replay_check.specs.declared.verdicts.Verdict.{Verdict}
 use Rattle.replay_check.specs.declared.verdicts.Verdict.TheVariants.{Legal, WrongReply, WrongCall}
 use Rattle.replay_check.specs.Same.{same_reply}
 use Rattle.replay_check.specs.Verdicts.{is_next, reply_due, judged, entry_fault, fault_at, first_fault}
@@ -47,8 +46,8 @@ first_some-none f a zero h k l m = absurd (omega arith)
 first_some-none f a (suc n) h k l m =
     let parts = or_else-none (f a) (first_some f (range_with_len (a + 1) n)) (sym (first_some-cons f a (range_with_len (a + 1) n)) ∙ h) in
     elim (cases_eq k a) [
-    | inl here ↦ ap f here ∙ parts.0
-    | inr other ↦ first_some-none f (a + 1) n parts.1 k (omega arith) (omega arith)
+      | inl here ↦ ap f here ∙ parts.0
+      | inr other ↦ first_some-none f (a + 1) n parts.1 k (omega arith) (omega arith)
     ]
 
 -- what is at none of the numbers isn't found
@@ -117,8 +116,8 @@ first_some-never : {A B : Type 0} (f : A → Option B) (y : B) → ((x : A) → 
 first_some-never f y never [] h = cc
 first_some-never {A} {B} f y never (x ∷ xs) h =
     elim (f x) as (λ (o : Option B). f x ≡ o → elim o [ Some z ↦ Some z | None ↦ first_some f xs ] ≡ Some y → ⊥) [
-    | Some z ↦ λ e g. never x (e ∙ g)
-    | None ↦ λ e g. first_some-never f y never xs g
+      | Some z ↦ λ e g. never x (e ∙ g)
+      | None ↦ λ e g. first_some-never f y never xs g
     ] refl h
 
 pub first_fault-legal : (s : Plan) (h : List Entry) → first_fault s h ≡ Some Legal → ⊥

@@ -1,5 +1,5 @@
 -- The place that a verdict names is the first wrong one.
-use Rattle.std.proofs.Common.{◌≡◌, ℕ, zero, suc, ◌+◌, ◌<◌, ◌≤◌, List, ◌∷◌, ◌++◌, length, take, drop, Bool, true, false, Option, Some, None, refl, sym, ap, ◌∙◌, subst, arith, inl, inr}
+use Rattle.std.proofs.Common.{◌≡◌, ℕ, zero, suc, ◌+◌, ◌<◌, ◌≤◌, List, length, take, drop, Bool, true, false, Option, Some, None, refl, sym, ap, ◌∙◌, subst, arith, inl, inr}
 use Rattle.std.specs.Prelude.{slice_get}
 use Rattle.std.specs.Option.{option_and_then, option_map_or, unwrap_or}
 use Rattle.std.specs.List.{range_with_len}
@@ -30,25 +30,25 @@ first_some-first : {B : Type 0} (f : ℕ → Option B) (v : B) (a n : ℕ) → f
 first_some-first f v a zero h = cc
 first_some-first {B} f v a (suc n) h =
     elim (f a) as (λ (o : Option B). f a ≡ o → or_else o (first_some f (range_with_len (a + 1) n)) ≡ Some v → FoundFirst f v a (suc n)) [
-    | Some x ↦ λ e g. record {
+      | Some x ↦ λ e g. record {
         at = a;
         low = omega arith;
         high = omega arith;
         found = e ∙ g;
         before = λ j l m. absurd (omega arith);
       }
-    | None ↦ λ e g.
-        let r = first_some-first f v (a + 1) n g in
-        record {
-          at = r.at;
-          low = let l : a + 1 ≤ r.at = r.low in omega arith;
-          high = let m : r.at < a + 1 + n = r.high in omega arith;
-          found = r.found;
-          before = λ j l m. elim (cases_eq j a) [
-            | inl same ↦ ap f same ∙ e
-            | inr other ↦ r.before j (omega arith) m
-          ];
-        }
+      | None ↦ λ e g.
+          let r = first_some-first f v (a + 1) n g in
+          record {
+            at = r.at;
+            low = let l : a + 1 ≤ r.at = r.low in omega arith;
+            high = let m : r.at < a + 1 + n = r.high in omega arith;
+            found = r.found;
+            before = λ j l m. elim (cases_eq j a) [
+              | inl same ↦ ap f same ∙ e
+              | inr other ↦ r.before j (omega arith) m
+            ];
+          }
     ] refl (sym (first_some-cons f a (range_with_len (a + 1) n)) ∙ h)
 
 judged-at : (b c : Bool) (m : ℕ) (due : Reply) (v : Verdict) → judged b c m due ≡ Some v → IsFaultAt m v
@@ -85,7 +85,7 @@ unfolding first_fault
 none-before s h k l none =
     let long : length (take k h) ≡ k = length-take-le k h l in
     first_some-absent (fault_at s (take k h)) 0 (length (take k h)) (λ j low high.
-      sym (fault_at-before s (take k h) (drop k h) j (omega arith)) ∙ ap (λ (whole : List Entry). fault_at s whole j) (take-append-drop k h) ∙ none j (omega arith))
+    sym (fault_at-before s (take k h) (drop k h) j (omega arith)) ∙ ap (λ (whole : List Entry). fault_at s whole j) (take-append-drop k h) ∙ none j (omega arith))
 
 pub first-wrong : (s : Plan) (h : List Entry) (n : ℕ) (v : Verdict) → IsValid s → IsFaultAt n v → verdict_of s h ≡ v → IsFirstWrong s h n v
 first-wrong s h n v valid at is =

@@ -1,17 +1,14 @@
 -- A replay that is fed one entry more.
-use Rattle.std.proofs.Common.{◌≡◌, ℕ, zero, suc, ◌+◌, ◌<◌, ◌≤◌, List, [], ◌∷◌, ◌++◌, length, get_or, set, Bool, true, false, nat_eq, nat_lt, Option, Some, None, reverse, IsTrue, ◌&&◌, refl, sym, ap, ap₂, ◌∙◌, subst, arith, inl, inr, length-append, is_some, cond}
+use Rattle.std.proofs.Common.{◌≡◌, ℕ, zero, suc, ◌+◌, ◌<◌, ◌≤◌, List, [], ◌∷◌, ◌++◌, length, get_or, set, Bool, true, false, nat_eq, nat_lt, Option, Some, None, ◌&&◌, refl, sym, ap, ap₂, ◌∙◌, arith, inl, inr, length-append, is_some, cond}
 use Rattle.std.specs.Prelude.{slice_get}
 use Rattle.std.specs.Option.{option_map_or, unwrap_or}
-use Rattle.std.specs.List.{range_with_len}
 use Rattle.std.proofs.lemmas.Bool.{cases_eq, and_left, and_right, lt-ltb, le-ltb}
 use Rattle.std.proofs.lemmas.List.{get_or-set_same, get_or-set_other, length-set}
 use Rattle.kern_ids.specs.declared.entries.Entry.{Entry}
 use Rattle.kern_ids.specs.declared.calls.Call.{Call}
 use Rattle.kern_ids.specs.declared.replies.Reply.{Reply}
-use Rattle.kernel_model.specs.Answers.{answer}
-use Rattle.kernel_model.specs.Lists.{first_some, some_if}
+use Rattle.kernel_model.specs.Lists.{some_if}
 use Rattle.kernel_model.specs.Scenario.{Plan, script}
-use Rattle.kernel_model.specs.System.{System}
 use Rattle.slow_kernel.specs.ObjectTables.{or_else}
 use Rattle.slow_kernel.proofs.Firsts.{first_some_more}
 use Rattle.replay_check.specs.declared.verdicts.Verdict.{Verdict}
@@ -20,7 +17,7 @@ use Rattle.replay_check.specs.Same.{same_call, same_reply}
 use Rattle.replay_check.specs.Verdicts.{of_thread, is_call_at, is_next, reply_due, entry_fault, first_fault, has_more, unspent, verdict_of}
 use Rattle.replay_check.specs.Replays.{ReplayView, StandsFor, first_unspent}
 use Rattle.replay_check.proofs.Sames.{same_reply-true}
-use Rattle.replay_check.proofs.Faults.{first_some-alike, first_fault-push, first_fault-none, entry_fault-call, entry_fault-reply, entry_fault-right}
+use Rattle.replay_check.proofs.Faults.{first_some-alike, first_fault-push, entry_fault-call, entry_fault-reply, entry_fault-right}
 use Rattle.replay_check.proofs.Begun.{of_thread-own, of_thread-other}
 
 or_else-some : {A : Type 0} (o rest : Option A) → is_some o ≡ true → or_else o rest ≡ o
@@ -73,7 +70,7 @@ pub stands-wrong_reply : (s : Plan) (es : List Entry) (e : Entry) (r next : Repl
 stands-wrong_reply s es e r next k place expected stands none count here right due wrong boot made is =
     stands-fault s es e r next (WrongReply place expected) stands none
     (entry_fault-reply s es e (ap (is_call_at s e.who e.call) (sym count) ∙ right) (ap (same_reply e.reply) (sym due) ∙ wrong)
-      ∙ ap₂ (λ (n : ℕ) (x : Reply). Some (WrongReply n x)) (sym here) (sym due))
+    ∙ ap₂ (λ (n : ℕ) (x : Reply). Some (WrongReply n x)) (sym here) (sym due))
     boot made is
 
 pub length-of_thread : (n : ℕ) (es : List Entry) → length (of_thread n es) ≤ length es
@@ -163,6 +160,6 @@ first_unspent-found s made n zero none here l = absurd (omega arith)
 first_unspent-found s made n (suc m) none here l =
     let one : suc m ≡ m + 1 = omega arith in
     ap (first_unspent s made) one ∙ first_unspent-more s made m ∙ elim (cases_eq m n) [
-    | inl same ↦ ap (λ (k : ℕ). or_else (first_unspent s made k) (some_if (has_more s k (get_or made k 0)) k)) same ∙ ap₂ or_else none here
-    | inr other ↦ ap (λ (o : Option ℕ). or_else o (some_if (has_more s m (get_or made m 0)) m)) (first_unspent-found s made n m none here (omega arith))
+      | inl same ↦ ap (λ (k : ℕ). or_else (first_unspent s made k) (some_if (has_more s k (get_or made k 0)) k)) same ∙ ap₂ or_else none here
+      | inr other ↦ ap (λ (o : Option ℕ). or_else o (some_if (has_more s m (get_or made m 0)) m)) (first_unspent-found s made n m none here (omega arith))
     ]

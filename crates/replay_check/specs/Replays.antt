@@ -4,7 +4,7 @@ use Rattle.std.specs.List.{range_with_len}
 use Rattle.kern_ids.specs.declared.entries.Entry.{Entry}
 use Rattle.kernel_model.specs.System.{System}
 use Rattle.kernel_model.specs.Lists.{first_some, some_if}
-use Rattle.kernel_model.specs.Scenario.{Plan, script}
+use Rattle.kernel_model.specs.Scenario.{Plan}
 use Rattle.replay_check.specs.declared.verdicts.Verdict.{Verdict}
 use Rattle.replay_check.specs.Verdicts.{of_thread, first_fault, has_more}
 

@@ -11,11 +11,7 @@ use kernel_model::scenario::Scenario;
 use std::alloc::Global;
 
 /// The verdict on a history of the scenario, of fewer than 2^32 entries.
-pub fn check(
-    alloc: Global,
-    scenario: &Scenario,
-    history: &EntryList,
-) -> Result<Verdict, NoMemory>
+pub fn check(alloc: Global, scenario: &Scenario, history: &EntryList) -> Result<Verdict, NoMemory>
     requires { length history.now.list < 2 ^ 32 }
     ensures verdict { IfOk result (λ v. v ≡ verdict_of scenario.now history.now.list) }
 

@@ -1,6 +1,4 @@
-use Rattle.std.proofs.Common.{◌≡◌, true, ap, sym, ◌∙◌}
-use Rattle.kern_ids.specs.declared.calls.Call.{Call}
-use Rattle.kern_ids.specs.declared.replies.Reply.{Reply}
+use Rattle.std.proofs.Common.{ap, sym, ◌∙◌}
 use Rattle.replay_check.specs.Same.{same_call, same_reply}
 use Rattle.replay_check.proofs.Sames.{same_call-true, same_call-refl, same_reply-true, same_reply-refl}
 use Rattle.replay_check.proofs.law.same_are_equal.Goals as goal

@@ -1,4 +1,4 @@
-use Rattle.std.proofs.Common.{◌≡◌, ◌<◌, length, Some, sym, ap, ap₂, ◌∙◌, arith}
+use Rattle.std.proofs.Common.{◌<◌, length, Some, sym, ap, ap₂, ◌∙◌, arith}
 use Rattle.slow_kernel.specs.ObjectTables.{or_else}
 use Rattle.replay_check.proofs.Standing.{first_unspent-zero, first_unspent-more, first_unspent-found, has_none, has_some}
 use Rattle.replay_check.proofs.replays.first_unspent.Goals as goal
@@ -13,7 +13,7 @@ returns-then-made-n c =
     let within : c.loop-n.n < length s.scripts = let same = ap length c.scripts-threads.ensures in omega arith in
     ap Some c.in-Some.ensures.1
     ∙ sym (first_unspent-found s made c.loop-n.n (length s.scripts) c.loop-n.invariant
-      (has_some s made c.loop-n.n c.in-Some.thread c.script_len.result c.in-Some.ensures.1 c.script_len.ensures c.if-made-n.true) within)
+    (has_some s made c.loop-n.n c.in-Some.thread c.script_len.result c.in-Some.ensures.1 c.script_len.ensures c.if-made-n.true) within)
 
 pub loop-n-preserved : goal.loop-n-preserved
 loop-n-preserved c =

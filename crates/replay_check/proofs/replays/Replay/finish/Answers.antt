@@ -1,6 +1,5 @@
-use Rattle.std.proofs.Common.{◌≡◌, ◌≤◌, length, Some, None, sym, ap, ◌∙◌, subst, arith}
+use Rattle.std.proofs.Common.{◌≡◌, ◌≤◌, length, None, sym, ap, ◌∙◌, subst, arith}
 use Rattle.replay_check.specs.Replays.{ReplayView, StandsFor, first_unspent}
-use Rattle.replay_check.specs.Verdicts.{first_fault}
 use Rattle.replay_check.proofs.Standing.{first_unspent-all, verdict-fault, verdict-end}
 use Rattle.replay_check.proofs.replays.Replay.finish.Goals as goal
 
