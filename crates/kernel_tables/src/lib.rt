@@ -4,10 +4,10 @@
 
 mod asks;
 mod beginnings;
-mod page_charges;
 mod charging;
 pub mod law;
 mod mapping;
+mod page_charges;
 mod parts;
 mod placings;
 mod purges;
