@@ -3,7 +3,7 @@ use Rattle.std.proofs.Common.{◌≡◌, ℕ, ◌-◌, ◌<◌, List, ◌∷◌,
 use Rattle.std.proofs.lemmas.Bool.{cases_Bool, false≢true, true≢false}
 use Rattle.std.proofs.lemmas.Bool.Decides.{eqb_tells, nat_tests}
 use Rattle.std.proofs.lemmas.List.{length-set}
-use Rattle.std.specs.Prelude.{is_some}
+use Rattle.std.specs.Prelude.{is_some, IsTrue}
 use Rattle.kern_ids.specs.declared.entries.Entry.{Entry}
 use Rattle.kern_ids.specs.declared.ids.PageId.{PageId}
 use Rattle.kernel_model.specs.declared.place.Placed.{Placed}
@@ -35,6 +35,26 @@ use Rattle.kernel_tables.proofs.Objects.{task-declared}
 use Rattle.kernel_tables.proofs.ObjectCharges.{accounts-object}
 use Rattle.kernel_tables.proofs.ObjectEntries.{SparesTasks, spared-live, spared-active, spared-limits, spared-bands, changed-each, task-added}
 use Rattle.kernel_tables.proofs.Unmapped.{caller-mapped}
+use Rattle.kernel_tables.proofs.Accepted.{accepted-answer, accepted-live, fitting-names}
+use Rattle.kernel_tables.proofs.ObjectCalls.{declared, caller, accepted-shares}
+use Rattle.kernel_tables.proofs.ObjectCharges.{burden-fits, owner-declared, table-charge, length-relieved}
+use Rattle.kernel_tables.proofs.Objects.{owner-stands, mapped-stands}
+use Rattle.kernel_model.specs.Answers.{answer, refusal}
+use Rattle.kernel_model.specs.Histories.{fits}
+use Rattle.kernel_model.specs.Pages.{pages_in, is_stored}
+use Rattle.kernel_model.specs.Laws.Frames.{pages_at, is_in}
+use Rattle.kernel_model.specs.declared.place.Place.{Place}
+use Rattle.kernel_model.proofs.Laws.Agree.{count_by-agree}
+use Rattle.kernel_model.proofs.Laws.Answers.{accepted-already, accepted-no_object}
+use Rattle.kernel_model.proofs.Laws.Held.{not_false}
+use Rattle.kern_ids.specs.declared.calls.Call.TheVariants.{Attach}
+use Rattle.kern_ids.specs.declared.replies.Reply.{Reply}
+use Rattle.kern_ids.specs.declared.replies.Reply.TheVariants.{Attached}
+use Rattle.kern_ids.specs.declared.replies.Counts.{Counts}
+use Rattle.vm_object.specs.Objects.{is_mapped, owner as owner_in, shares as shares_in, maps as maps_in}
+use Rattle.task_ledger.specs.Accounts.{account_of, counts_plus, AreWithin}
+use Rattle.kernel_tables.specs.Charges.{charge, framed_of, stored_of}
+use Rattle.std.specs.List.{range_with_len}
 
 module _ (boot : System) (who o t : ℕ) (before : List Entry) (v : IsValidBoot boot) (by : task_of boot who ≡ Some t) (alive : live boot before t ≡ true) (already : mapped boot before o ≡ true) (inside : o < length boot.objects) where
   abbrev entry : Entry
@@ -125,3 +145,75 @@ attach-stands tables past who o t v by alive already inside whole legal s =
       accounts = attach_accounts boot who o t past v by alive already inside tables.accounts s.accounts;
       bands = spared-bands boot (attach_entry who o) past (spares boot who o t past v by alive already inside) tables.wishes tables.bands tables.ages s.bands;
     }
+
+-- an Attach that is not refused
+module _ (tables : TableValues) (past : List Entry) (who o t : ℕ) (v : IsValidBoot tables.boot) (s : Stands tables past) (f : IsTrue (fits tables.boot who (Attach o))) (a : refusal tables.boot past who (Attach o) ≡ None) (by : task_of tables.boot who ≡ Some t) where
+  abbrev later : List Entry
+  later = attach_entry who o ∷ past
+
+  pub attach-inside : o < length tables.boot.objects
+  attach-inside = declared tables.boot o (fitting-names tables.boot past who (Attach o) f)
+
+  attach_alive : live tables.boot past t ≡ true
+  attach_alive = accepted-live tables.boot past who (Attach o) t by a
+
+  pub attach-found : mapped tables.boot past o ≡ true
+  attach-found = not_false (mapped tables.boot past o) (accepted-no_object tables.boot past who (Attach o) a)
+
+  pub attach-mapped : is_mapped tables.objects o ≡ true
+  attach-mapped = mapped-stands tables.boot past tables.objects v s.objects.mappers o attach-inside ∙ attach-found
+
+  pub attach-shares : shares_in tables.objects o t ≡ true
+  attach-shares =
+      let few : t < 64 = (let d = task-declared tables.boot who t v by in let m = v.few_tasks in omega (arith, d, m)) in
+      s.objects.sharers o t attach-inside few ∙ accepted-shares tables.boot past who (Attach o) o t refl by a
+
+  pub attach-other : maps_in tables.objects o t ≡ false
+  attach-other = s.objects.mappers o t attach-inside ∙ ap (maps tables.boot past o) (sym (caller tables.boot who t by)) ∙ accepted-already tables.boot past who (Attach o) a
+
+  pub attach-reply : Attached ≡ answer tables.boot past who (Attach o)
+  attach-reply = sym (accepted-answer tables.boot past who (Attach o) a)
+
+  -- what it counts stays
+  attach_pages_at : (k : Place → Bool) → pages_at tables.boot later k o ≡ pages_at tables.boot past k o
+  attach_pages_at k = count_by-agree (λ n. k (place tables.boot later (record { obj = o; page = n }))) (λ n. k (place tables.boot past (record { obj = o; page = n }))) (λ n. ap (λ (x : Placed). k x.place) (placed_same tables.boot who o t past v by attach_alive attach-found attach-inside (record { obj = o; page = n }))) (range_with_len 0 (pages_in tables.boot o))
+
+  attach_charge : charge_of tables.boot later o ≡ charge_of tables.boot past o
+  attach_charge =
+      ap₂ (charge (state later o)) (attach_pages_at is_in) (attach_pages_at is_stored)
+      ∙ ap (λ x. charge x (pages_at tables.boot past is_in o) (pages_at tables.boot past is_stored o)) (state_same tables.boot who o t past v by attach_alive attach-found attach-inside o)
+
+  module _ (whole : length (object_at tables.objects o).mapping ≡ 64) (from to : Option ℕ) (c : Counts) (objects : List Object) (off : List Account) (first : from ≡ owner_in tables.objects o) (counted : c ≡ charge (object_at tables.objects o).state (framed_of tables.pages o) (stored_of tables.pages o)) (attached : objects ≡ changed tables.objects o (attached_by t)) (taken : off ≡ relieved from c tables.accounts) (then_by : to ≡ owner_in objects o) where
+    attach_objects_stand : ObjectsStand tables.boot later objects
+    attach_objects_stand = subst (ObjectsStand tables.boot later) (sym attached) (attach_objects tables.boot who o t past v by attach_alive attach-found attach-inside tables.objects whole s.objects)
+
+    from_is : from ≡ owner tables.boot past o
+    from_is = first ∙ owner-stands tables.boot past tables.objects v s.objects.mappers o attach-inside
+
+    to_is : to ≡ owner tables.boot later o
+    to_is = then_by ∙ owner-stands tables.boot later objects v attach_objects_stand.mappers o attach-inside
+
+    c_is : c ≡ charge_of tables.boot past o
+    c_is = counted ∙ table-charge tables past s o attach-inside attach-found
+
+    off_is : off ≡ relieved (owner tables.boot past o) (charge_of tables.boot past o) tables.accounts
+    off_is = taken ∙ ap₂ (λ x y. relieved x y tables.accounts) from_is c_is
+
+    pub attach-burden : (u : ℕ) → to ≡ Some u → (u < length off) × AreWithin (counts_plus (account_of off u).counts c)
+    attach-burden u is =
+        let now : owner tables.boot later o ≡ Some u = sym to_is ∙ is in
+        let d = owner-declared tables.boot later o u now in
+        let n : length off ≡ length tables.boot.tasks = ap length taken ∙ length-relieved from c tables.accounts ∙ s.accounts.account_count in (
+          omega (arith, d, n),
+          subst (λ (x : List Account). AreWithin (counts_plus (account_of x u).counts c)) (sym off_is)
+              (subst (λ (x : Counts). AreWithin (counts_plus (account_of (relieved (owner tables.boot past o) (charge_of tables.boot past o) tables.accounts) u).counts x)) (sym (c_is ∙ sym attach_charge))
+              (burden-fits tables.boot (attach_entry who o) past o attach-inside (owner_other tables.boot who o t past v by attach_alive attach-found attach-inside) (λ x d. state_same tables.boot who o t past v by attach_alive attach-found attach-inside x) (λ x d n. ap (λ (y : Placed). y.place) (placed_same tables.boot who o t past v by attach_alive attach-found attach-inside (record { obj = x; page = n }))) tables.accounts s.accounts u v now)),
+        )
+
+    pub attach-done : (accounts : List Account) → accounts ≡ burdened to c off → Stands (record tables { objects = objects; accounts = accounts }) later
+    attach-done accounts given =
+        let by_definition : accounts ≡ burdened (owner tables.boot later o) (charge_of tables.boot later o) (relieved (owner tables.boot past o) (charge_of tables.boot past o) tables.accounts) =
+        given ∙ ap₂ (λ x y. burdened x y off) to_is (c_is ∙ sym attach_charge) ∙ ap (burdened (owner tables.boot later o) (charge_of tables.boot later o)) off_is in
+        subst (λ (x : List Object). Stands (record tables { objects = x; accounts = accounts }) later) (sym attached)
+        (subst (λ (x : List Account). Stands (record tables { objects = changed tables.objects o (attached_by t); accounts = x }) later) (sym by_definition)
+        (attach-stands tables past who o t v by attach_alive attach-found attach-inside whole (f, attach-reply, s.legal) s))

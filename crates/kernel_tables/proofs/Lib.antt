@@ -10,8 +10,11 @@ pub mod Objects
 pub mod ObjectCharges
 pub mod Unmapped
 pub mod ObjectEntries
+pub mod ObjectCalls
 pub mod MapCall
 pub mod AttachCall
+pub mod SetQueues
+pub mod SetEntry
 pub mod Choices
 pub mod Dropped
 pub mod Emptied

@@ -1,7 +1,7 @@
 -- Map: an object that nobody maps is mapped by one task, NONVOLATILE, with no page anywhere.
 use Rattle.std.proofs.Common.{◌≡◌, ℕ, ◌-◌, ◌<◌, List, ◌∷◌, length, map, Option, Some, None, refl, sym, ap, ap₂, ◌∙◌, subst, Bool, true, false, ◌&&◌, ◌||◌, inl, inr, nat_eq, arith}
 use Rattle.std.specs.Option.{option_map_or}
-use Rattle.std.specs.Prelude.{count_by}
+use Rattle.std.specs.Prelude.{count_by, IsTrue}
 use Rattle.std.proofs.lemmas.Bool.{cases_Bool, false≢true, true≢false}
 use Rattle.std.proofs.lemmas.Bool.Decides.{eqb_tells, nat_tests}
 use Rattle.std.proofs.lemmas.List.{length-set, length-replicate}
@@ -46,6 +46,16 @@ use Rattle.kernel_tables.proofs.Objects.{task-declared}
 use Rattle.kernel_tables.proofs.ObjectCharges.{counts-uncharged}
 use Rattle.kernel_tables.proofs.ObjectEntries.{SparesTasks, spared-live, spared-active, spared-limits, spared-bands, changed-each, task-added}
 use Rattle.kernel_tables.proofs.Unmapped.{absent-unmapped, unmapped-by}
+use Rattle.kernel_tables.proofs.Accepted.{accepted-answer, accepted-live, fitting-names}
+use Rattle.kernel_tables.proofs.ObjectCalls.{declared, accepted-shares}
+use Rattle.kernel_tables.proofs.Objects.{mapped-stands}
+use Rattle.kernel_model.specs.Answers.{answer, refusal}
+use Rattle.kernel_model.specs.Histories.{fits}
+use Rattle.kernel_model.proofs.Laws.Answers.{accepted-already}
+use Rattle.kern_ids.specs.declared.calls.Call.TheVariants.{Map}
+use Rattle.kern_ids.specs.declared.replies.Reply.{Reply}
+use Rattle.kern_ids.specs.declared.replies.Reply.TheVariants.{Mapped}
+use Rattle.vm_object.specs.Objects.{is_mapped, shares as shares_in}
 
 pub runs-for : (boot : System) (who t u : ℕ) → task_of boot who ≡ Some t → runs_for boot u who ≡ nat_eq u t
 runs-for boot who t u by = ap (λ (x : Option ℕ). option_map_or (nat_eq u) x false) by
@@ -196,8 +206,8 @@ module _ (boot : System) (who o t : ℕ) (before : List Entry) (v : IsValidBoot 
         written = λ p m k. changed-each (λ y object. y ≡ p.obj → Rattle.std.proofs.Common.get_or object.written p.page false ≡ written (entry ∷ before) p) objects o (mapped_by t) l
             (λ e. get_or-same 256 p.page false ∙ sym (written-emptied entry before p (emptied p (ap (nat_eq o) (sym e) ∙ same-number o))))
             (λ y d e.
-                let other : nat_eq o p.obj ≡ false = ap (nat_eq o) (sym e) ∙ other-number y o d in
-                ap (λ (z : ℕ). Rattle.std.proofs.Common.get_or (object_at objects z).written p.page false) e ∙ s.written p m (sym (mapped_other p.obj other) ∙ k) ∙ sym (written_other p other)) p.obj refl;
+            let other : nat_eq o p.obj ≡ false = ap (nat_eq o) (sym e) ∙ other-number y o d in
+            ap (λ (z : ℕ). Rattle.std.proofs.Common.get_or (object_at objects z).written p.page false) e ∙ s.written p m (sym (mapped_other p.obj other) ∙ k) ∙ sym (written_other p other)) p.obj refl;
       }
 
 -- all tables after a Map
@@ -212,3 +222,27 @@ map-stands tables past who o t v by alive unmapped inside legal s =
       accounts = map_accounts boot who o t past v s.legal by alive unmapped inside tables.accounts s.accounts;
       bands = spared-bands boot (map_entry who o) past (spares boot who o t past v s.legal by alive unmapped inside) tables.wishes tables.bands tables.ages s.bands;
     }
+
+-- a Map that is not refused
+module _ (tables : TableValues) (past : List Entry) (who o t : ℕ) (v : IsValidBoot tables.boot) (s : Stands tables past) (f : IsTrue (fits tables.boot who (Map o))) (a : refusal tables.boot past who (Map o) ≡ None) (by : task_of tables.boot who ≡ Some t) where
+  map_inside : o < length tables.boot.objects
+  map_inside = declared tables.boot o (fitting-names tables.boot past who (Map o) f)
+
+  map_free : mapped tables.boot past o ≡ false
+  map_free = accepted-already tables.boot past who (Map o) a
+
+  pub map-unmapped : is_mapped tables.objects o ≡ false
+  map-unmapped = mapped-stands tables.boot past tables.objects v s.objects.mappers o map_inside ∙ map_free
+
+  pub map-shares : shares_in tables.objects o t ≡ true
+  map-shares =
+      let few : t < 64 = (let d = task-declared tables.boot who t v by in let m = v.few_tasks in omega (arith, d, m)) in
+      s.objects.sharers o t map_inside few ∙ accepted-shares tables.boot past who (Map o) o t refl by a
+
+  pub map-reply : Mapped ≡ answer tables.boot past who (Map o)
+  map-reply = sym (accepted-answer tables.boot past who (Map o) a)
+
+  pub map-done : (objects : List Object) → objects ≡ changed tables.objects o (mapped_by t) → Stands (record tables { objects = objects }) (map_entry who o ∷ past)
+  map-done objects is =
+      subst (λ (x : List Object). Stands (record tables { objects = x }) (map_entry who o ∷ past)) (sym is)
+      (map-stands tables past who o t v by (accepted-live tables.boot past who (Map o) t by a) map_free map_inside (f, map-reply, s.legal) s)

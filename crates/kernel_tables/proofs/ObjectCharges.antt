@@ -21,7 +21,7 @@ use Rattle.kernel_model.specs.declared.place.Place.{Place}
 use Rattle.kernel_model.specs.declared.place.Place.TheVariants.{Absent, Active, Inactive, Stored}
 use Rattle.kernel_model.specs.System.{System}
 use Rattle.kernel_model.specs.Valid.{IsValidBoot, IsValidObject}
-use Rattle.kernel_model.specs.Mapping.{live, maps, owner, tasks_of}
+use Rattle.kernel_model.specs.Mapping.{live, maps, mapped, owner, tasks_of}
 use Rattle.kernel_model.specs.State.{state}
 use Rattle.kernel_model.specs.Groups.{is_volatile_state}
 use Rattle.kernel_model.specs.Pages.{place, stamp, pages_of, pages_in, is_active, is_inactive, is_stored}
@@ -40,7 +40,10 @@ use Rattle.page_queues.specs.Tallies.{is_of, count_of as count_in}
 use Rattle.task_ledger.specs.declared.account.Account.{Account}
 use Rattle.task_ledger.specs.Accounts.{account_of, with_counts, counts_plus, counts_less, no_pages, AreAtMost, AreWithin, IsSummed}
 use Rattle.kernel_tables.specs.Charges.{charge, charge_of, framed_of, stored_of, is_owner, owed, relieved, burdened}
-use Rattle.kernel_tables.specs.Stands.{PagesStand, AccountsStand, IsAccount}
+use Rattle.vm_object.specs.Objects.{object_at, owner as owner_in}
+use Rattle.kernel_tables.specs.Values.{TableValues}
+use Rattle.kernel_tables.specs.Stands.{Stands, PagesStand, AccountsStand, IsAccount}
+use Rattle.kernel_tables.proofs.Objects.{owner-stands}
 use Rattle.kernel_tables.proofs.Counting.{keeps-count, pages-distinct, pair_lt-itself}
 
 -- the pages of an object in a place, by the list of the place
@@ -384,3 +387,28 @@ counts-uncharged boot e before o l owners states places absent t =
     counts-object boot e before o l owners states (λ x h n. places (record { obj = x; page = n })) t
     ∙ ap₂ (λ x y. counts_plus (counts_less c x) y) (nothing_owed (owner boot before o) (charge_of boot before o) t (charge-absent boot before o absent)) (nothing_owed (owner boot (e ∷ before) o) (charge_of boot (e ∷ before) o) t (charge-absent boot (e ∷ before) o (λ n. places (record { obj = o; page = n }) ∙ absent n)))
     ∙ plus_none (counts_less c no_pages) ∙ less_none c
+
+-- the charge of a mapped object by the tables
+module _ (tables : TableValues) (past : List Entry) (s : Stands tables past) (o : ℕ) (l : o < length tables.boot.objects) where
+  pub table-charge : mapped tables.boot past o ≡ true → charge (object_at tables.objects o).state (framed_of tables.pages o) (stored_of tables.pages o) ≡ charge_of tables.boot past o
+  table-charge m = ap (λ x. charge x (framed_of tables.pages o) (stored_of tables.pages o)) (s.objects.states o l m) ∙ charge-stands tables.boot past tables.pages tables.entered o l s.pages
+
+  pub framed-few : IsValidBoot tables.boot → framed_of tables.pages o ≤ 256
+  framed-few v = subst (λ (n : ℕ). n ≤ 256) (sym (framed-stands tables.boot past tables.pages tables.entered o l s.pages)) (object-few tables.boot past is_in o v)
+
+  pub stored-few : IsValidBoot tables.boot → stored_of tables.pages o ≤ 256
+  stored-few v = subst (λ (n : ℕ). n ≤ 256) (sym (stored-stands tables.boot past tables.pages tables.entered o l s.pages)) (object-few tables.boot past is_stored o v)
+
+  pub object-sized : o < length tables.pages.sizes
+  object-sized = let n : length tables.pages.sizes ≡ length tables.boot.objects = ap length s.pages.page_sizes ∙ length-map tables.boot.objects (λ (x : ObjBoot). x.pages) in omega (arith, n, l)
+
+  pub object-kept : o < length tables.objects
+  object-kept = let n = s.objects.object_count in omega (arith, n, l)
+
+  -- what it counts can be taken off its owner's account
+  pub table-relief : IsValidBoot tables.boot → mapped tables.boot past o ≡ true → (from : Option ℕ) (c : Counts) → from ≡ owner_in tables.objects o → c ≡ charge (object_at tables.objects o).state (framed_of tables.pages o) (stored_of tables.pages o) → (u : ℕ) → from ≡ Some u → (u < length tables.accounts) × AreAtMost c (account_of tables.accounts u).counts
+  table-relief v m from c f h u is =
+      let by : owner tables.boot past o ≡ Some u = sym (owner-stands tables.boot past tables.objects v s.objects.mappers o l) ∙ sym f ∙ is in
+      let n = s.accounts.account_count in
+      let d = owner-declared tables.boot past o u by in
+      (omega (arith, n, d), subst (λ (x : Counts). AreAtMost x (account_of tables.accounts u).counts) (sym (h ∙ table-charge m)) (relief-fits tables.boot past tables.accounts o u l s.accounts by))

@@ -7,3 +7,4 @@ pub mod Emptying
 pub mod Picked
 pub mod Charges
 pub mod Moves
+pub mod Settings

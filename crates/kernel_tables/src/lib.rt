@@ -6,6 +6,7 @@ mod asks;
 mod beginnings;
 mod charging;
 pub mod law;
+mod mapping;
 mod parts;
 mod placings;
 mod purges;
