@@ -29,7 +29,7 @@ use Rattle.kernel_tables.specs.Stands.{Stands, AccountsStand, BandsStand, HasBan
 use Rattle.kernel_tables.proofs.Kept.{kept-account, kept-band}
 use Rattle.kernel_tables.proofs.Accepted.{accepted-answer, accepted-live, fitting-side}
 use Rattle.kernel_tables.proofs.TaskCalls.{OnlyTasks, only-live, only-counts, only-stands, accounts-set}
-use Rattle.kernel_tables.proofs.Placing.{both-true, placed-bands, counted-kept, ages-one}
+use Rattle.kernel_tables.proofs.Placing.{both-true, placed-bands, counted-kept, ages-one, nat-other}
 
 active-only : (who : ℕ) (on was : Bool) → OnlyTasks (active_entry who on was)
 active-only who on was = record {
@@ -67,9 +67,6 @@ still_count l true true z x n d h = refl
 still_count l false false z x n d h = refl
 still_count l true false z x n d h = rw (h, and_off l true, and_off l false) refl
 still_count l false true z x n d h = rw (h, and_off l true, and_off l false) refl
-
-other_way : (a b : ℕ) → nat_eq a b ≡ false → nat_eq b a ≡ false
-other_way a b h = grind (arith, nat_tests)
 
 module _ (boot : System) (who t : ℕ) (on was : Bool) (before : List Entry) (is : task_of boot who ≡ Some t) where
   abbrev entry : Entry
@@ -146,7 +143,7 @@ module _ (boot : System) (who t : ℕ) (on was : Bool) (before : List Entry) (is
       → ((b : ℕ) → b < 21 → list_at new b ≡ cond m (without t (list_at old b) ++ cond (nat_eq (of_task (λ task. task.ageing) boot t 0) b) (t ∷ []) []) (list_at old b))
       → HasBands boot before old → HasBands boot (entry ∷ before) new
   bands_by true old new declared alive moves each h =
-      placed-bands boot entry before t (of_task (λ task. task.ageing) boot t 0) declared lives alive (λ u k. band_there u (other_way t u k)) (λ u k. placing_of u false false (other_way t u k) refl) (band_here alive moves) (ap (λ (x : Placing). x.bstamp) (placing_of t true true itself moves)) old new each h
+      placed-bands boot entry before t (of_task (λ task. task.ageing) boot t 0) declared lives alive (λ u k. band_there u (nat-other t u k)) (λ u k. placing_of u false false (nat-other t u k) refl) (band_here alive moves) (ap (λ (x : Placing). x.bstamp) (placing_of t true true itself moves)) old new each h
   bands_by false old new declared alive stays each h =
       λ b l. kept-band boot entry before b (list_at new b) lives (band_all stays) (placed_all stays) (subst (Rattle.kernel_model.specs.Laws.Queues.KeepsBand boot before b) (sym (each b l)) (h b l))
 

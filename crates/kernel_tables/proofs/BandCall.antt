@@ -24,9 +24,9 @@ use Rattle.kernel_tables.specs.Stands.{Stands, AccountsStand, BandsStand, HasWis
 use Rattle.kernel_tables.proofs.Kept.{kept-accounts}
 use Rattle.kernel_tables.proofs.Accepted.{accepted-answer, accepted-named, fitting-names}
 use Rattle.kernel_tables.proofs.TaskCalls.{OnlyTasks, only-live, only-counts, only-stands}
-use Rattle.kernel_tables.proofs.Placing.{placed-bands, counted-kept, ages-one}
+use Rattle.kernel_tables.proofs.Placing.{placed-bands, counted-kept, ages-one, nat-other}
 
-pub band-only : (who t w : ℕ) → OnlyTasks (band_entry who t w)
+band-only : (who t w : ℕ) → OnlyTasks (band_entry who t w)
 band-only who t w = record {
   map = λ o. refl;
   attach = λ o. refl;
@@ -53,9 +53,6 @@ begun false w g n d = elim (eqb_tells w 0) [
       rw (same.0, e, z, m) refl
   | inr other ↦ rw other.0 refl
 ]
-
-other_way : (a b : ℕ) → nat_eq a b ≡ false → nat_eq b a ≡ false
-other_way a b h = grind (arith, nat_tests)
 
 module _ (boot : System) (who t w : ℕ) (before : List Entry) where
   abbrev entry : Entry
@@ -111,7 +108,7 @@ module _ (boot : System) (who t w : ℕ) (before : List Entry) where
   wished-bands wishes old new ages later declared alive each delays here others s = record {
     wish_count = length-set wishes t w ∙ s.wish_count;
     wishes = wishes_set wishes (subst (λ n. t < n) (sym s.wish_count) declared) s.wishes;
-    bands = placed-bands boot entry before t _ declared lives alive (λ u m. band_there u (other_way t u m)) (λ u m. placing_of u false (other_way t u m)) band_here (ap (λ (x : Placing). x.bstamp) (placing_of t true itself)) old new each s.bands;
+    bands = placed-bands boot entry before t _ declared lives alive (λ u m. band_there u (nat-other t u m)) (λ u m. placing_of u false (nat-other t u m)) band_here (ap (λ (x : Placing). x.bstamp) (placing_of t true itself)) old new each s.bands;
     delays = delays ∙ s.delays;
     ages = ages-one boot entry before t ages later (counted_here alive ∙ sym here) counted_there others s.ages;
   }
@@ -123,7 +120,7 @@ pub band-reply : (boot : System) (past : List Entry) (who t w : ℕ) → refusal
 band-reply boot past who t w h = sym (accepted-answer boot past who (SetBand t w) h)
 
 -- the task is declared
-pub band-task : (boot : System) (past : List Entry) (who t w : ℕ) → IsTrue (fits boot who (SetBand t w)) → t < length boot.tasks
+band-task : (boot : System) (past : List Entry) (who t w : ℕ) → IsTrue (fits boot who (SetBand t w)) → t < length boot.tasks
 band-task boot past who t w f = let declared : nat_lt t (length boot.tasks) ≡ true = fitting-names boot past who (SetBand t w) f in grind (arith, nat_tests)
 
 pub band-stand : (tables : TableValues) (past : List Entry) (who t w ageing : ℕ) (accounts : List Account) (bands : List (List ℕ)) (ages : Ageing) (wishes : List ℕ)

@@ -2,7 +2,7 @@
 use Rattle.std.proofs.Common.{◌≡◌, ℕ, suc, ◌+◌, ◌<◌, List, [], ◌∷◌, ◌++◌, length, Some, None, refl, sym, ap, ap₂, ◌∙◌, subst, Bool, true, false, ◌&&◌, cond, nat_eq, inl, inr, arith, zero-le}
 use Rattle.std.specs.Prelude.{min}
 use Rattle.std.proofs.lemmas.Bool.{false≢true}
-use Rattle.std.proofs.lemmas.Bool.Decides.{eqb_tells}
+use Rattle.std.proofs.lemmas.Bool.Decides.{eqb_tells, nat_tests}
 use Rattle.kern_ids.specs.declared.entries.Entry.{Entry}
 use Rattle.kernel_model.specs.System.{System}
 use Rattle.kernel_model.specs.Mapping.{live, tasks_of}
@@ -17,8 +17,8 @@ use Rattle.kernel_tables.specs.Stands.{HasBands, HasAges, counted_ticks}
 pub nat-is : (a b : ℕ) → nat_eq a b ≡ true → a ≡ b
 nat-is a b h = elim (eqb_tells a b) [ inl same ↦ same.1 | inr other ↦ absurd (false≢true (sym other.0 ∙ h)) ]
 
-pub nat-isnt : (a b : ℕ) → nat_eq a b ≡ false → a ≡ b → ⊥
-nat-isnt a b h = elim (eqb_tells a b) [ inl same ↦ absurd (false≢true (sym h ∙ same.0)) | inr other ↦ other.1 ]
+pub nat-other : (a b : ℕ) → nat_eq a b ≡ false → nat_eq b a ≡ false
+nat-other a b h = grind (arith, nat_tests)
 
 pub both-true : (a b : Bool) → (a && b) ≡ true → (a ≡ true) × (b ≡ true)
 both-true true b h = (refl, h)

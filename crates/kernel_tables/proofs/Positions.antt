@@ -17,14 +17,14 @@ use Rattle.priority_bands.specs.Banded.{placed, removed}
 use Rattle.kernel_tables.proofs.Lists.{placed-at, has-fact, fact-has}
 
 -- a number's place in a list, counted from some number on
-pub place-none : (t i : ℕ) (xs : List ℕ) → has t xs ≡ false → position_from (nat_eq t) i xs ≡ None
+place-none : (t i : ℕ) (xs : List ℕ) → has t xs ≡ false → position_from (nat_eq t) i xs ≡ None
 place-none t i [] h = refl
 place-none t i (x ∷ xs) h = elim (cases_Bool (nat_eq t x)) [
   | inl e ↦ absurd (false≢true (sym h ∙ ap (λ b. b || has t xs) e))
   | inr e ↦ rw e (place-none t (i + 1) xs (sym (ap (λ b. b || has t xs) e) ∙ h))
 ]
 
-pub place-some : (t i : ℕ) (xs : List ℕ) → has t xs ≡ true → (k : ℕ) × (i ≤ k) × (position_from (nat_eq t) i xs ≡ Some k)
+place-some : (t i : ℕ) (xs : List ℕ) → has t xs ≡ true → (k : ℕ) × (i ≤ k) × (position_from (nat_eq t) i xs ≡ Some k)
 place-some t i [] h = absurd (false≢true h)
 place-some t i (x ∷ xs) h = elim (cases_Bool (nat_eq t x)) [
   | inl e ↦ (i, omega arith, ap (λ b. cond b (Some i) (position_from (nat_eq t) (i + 1) xs)) e)

@@ -132,7 +132,7 @@ pub lower-band : (boot : System) (past : List Entry) (a b t u : ℕ) → band bo
 lower-band boot past a b t u ht hu l = lower_first (band boot past t) (band boot past u) (bstamp boot past t) (bstamp boot past u) (rw (ht, hu) l)
 
 -- a declared task's boot
-pub task-valid : (boot : System) → IsValidBoot boot → (t : ℕ) → t < length boot.tasks → (task : TaskBoot) × (slice_get boot.tasks t ≡ Some task) × IsValidTask task
+task-valid : (boot : System) → IsValidBoot boot → (t : ℕ) → t < length boot.tasks → (task : TaskBoot) × (slice_get boot.tasks t ≡ Some task) × IsValidTask task
 task-valid boot valid t l =
     let q = at-some boot.tasks t l in
     (q.0, q.1, subst IsValidTask (get_or_from_slice_get boot.tasks t q.0 q.0 q.1) (All-get_or IsValidTask boot.tasks t q.0 l valid.tasks))

@@ -7,6 +7,7 @@ mod beginnings;
 mod charging;
 pub mod law;
 mod mapping;
+mod page_charges;
 mod parts;
 mod placings;
 mod purges;
