@@ -66,7 +66,7 @@ both_true false b h = absurd (false≢true h)
 -- What the emptying of a mapped object asks of the tables' parts.
 module _ (boot : System) (past : List Entry) (valid : IsValidBoot boot) (o : ℕ) (l : o < length boot.objects) where
   module _ (pages : Pages) (n : ℕ) (s : PagesStand boot past pages n) where
-    pub framed-few : framed_of pages o ≤ 512
+    pub framed-few : framed_of pages o ≤ 256
     framed-few = (let is = framed-stands boot past pages n o l s in let few = object-few boot past is_in o valid in omega arith)
 
     pub stored-few : stored_of pages o ≤ 256

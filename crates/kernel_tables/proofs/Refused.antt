@@ -41,11 +41,11 @@ count-two p f zero two =
 count-two p f (suc n) two =
     let before : count_by p (range_with_len 0 n) ≡ bit (nat_lt f n && p f) + bit (nat_lt (f + 1) n && p (f + 1)) = count-two p f n (λ k l h. two k (omega arith) h) in
     let more : count_by p (range_with_len 0 (n + 1)) ≡ count_by p (range_with_len 0 n) + length (cond (p n) (n ∷ []) []) =
-        sym (length-filter p (range_with_len 0 (n + 1))) ∙ ap length (filter-more p n) ∙ length-append (filter p (range_with_len 0 n)) (cond (p n) (n ∷ []) []) ∙ ap (λ m. m + length (cond (p n) (n ∷ []) [])) (length-filter p (range_with_len 0 n)) in
+    sym (length-filter p (range_with_len 0 (n + 1))) ∙ ap length (filter-more p n) ∙ length-append (filter p (range_with_len 0 n)) (cond (p n) (n ∷ []) []) ∙ ap (λ m. m + length (cond (p n) (n ∷ []) [])) (length-filter p (range_with_len 0 n)) in
     let one : suc n ≡ n + 1 = omega arith in
     let last : (b : Bool) → length (cond b (n ∷ []) []) ≡ bit b = λ b. elim (cases_Bool b) [ inl h ↦ rw h refl | inr h ↦ rw h refl ] in
     let whole : count_by p (range_with_len 0 (suc n)) ≡ (bit (nat_lt f n && p f) + bit (nat_lt (f + 1) n && p (f + 1))) + bit (p n) =
-        ap (λ m. count_by p (range_with_len 0 m)) one ∙ more ∙ ap₂ (λ a b. a + b) before (last (p n)) in
+    ap (λ m. count_by p (range_with_len 0 m)) one ∙ more ∙ ap₂ (λ a b. a + b) before (last (p n)) in
     elim (cases_eq n f) [
       | inl at ↦
           let a : nat_lt f n ≡ false = grind (arith, nat_tests) in
@@ -54,21 +54,21 @@ count-two p f (suc n) two =
           let d : nat_lt (f + 1) (suc n) ≡ false = grind (arith, nat_tests) in
           whole ∙ rw (a, b, c, d, at) (omega arith)
       | inr other ↦ elim (cases_eq n (f + 1)) [
-          | inl at ↦
-              let a : nat_lt f n ≡ true = grind (arith, nat_tests) in
-              let b : nat_lt (f + 1) n ≡ false = grind (arith, nat_tests) in
-              let c : nat_lt f (suc n) ≡ true = grind (arith, nat_tests) in
-              let d : nat_lt (f + 1) (suc n) ≡ true = grind (arith, nat_tests) in
-              whole ∙ rw (a, b, c, d, at) (omega arith)
-          | inr further ↦
-              let none : p n ≡ false = elim (cases_Bool (p n)) [
-                | inl h ↦ absurd (elim (two n (omega arith) h) [ inl e ↦ other e | inr e ↦ further e ])
-                | inr h ↦ h
-              ] in
-              let c : nat_lt f (suc n) ≡ nat_lt f n = grind (arith, nat_tests) in
-              let d : nat_lt (f + 1) (suc n) ≡ nat_lt (f + 1) n = grind (arith, nat_tests) in
-              whole ∙ rw (none, c, d) (omega arith)
-        ]
+        | inl at ↦
+            let a : nat_lt f n ≡ true = grind (arith, nat_tests) in
+            let b : nat_lt (f + 1) n ≡ false = grind (arith, nat_tests) in
+            let c : nat_lt f (suc n) ≡ true = grind (arith, nat_tests) in
+            let d : nat_lt (f + 1) (suc n) ≡ true = grind (arith, nat_tests) in
+            whole ∙ rw (a, b, c, d, at) (omega arith)
+        | inr further ↦
+            let none : p n ≡ false = elim (cases_Bool (p n)) [
+              | inl h ↦ absurd (elim (two n (omega arith) h) [ inl e ↦ other e | inr e ↦ further e ])
+              | inr h ↦ h
+            ] in
+            let c : nat_lt f (suc n) ≡ nat_lt f n = grind (arith, nat_tests) in
+            let d : nat_lt (f + 1) (suc n) ≡ nat_lt (f + 1) n = grind (arith, nat_tests) in
+            whole ∙ rw (none, c, d) (omega arith)
+      ]
     ]
 
 -- bytes in range reach the page of their first byte and the one after it at most
@@ -108,7 +108,7 @@ needed-is boot past o off len x y r a b =
     let p : ℕ → Bool = λ (k : ℕ). reaches_page off len k && is_out (place boot past (record { obj = o; page = k })) in
     ap₂ (λ n m. n + m) a b
     ∙ sym (count-two (λ k. reaches_page off len k && is_out (place boot past (record { obj = o; page = k }))) (off / 4096) (pages_in boot o)
-        (λ k l h. reached off len k (in_reach boot o off len r) (and_parts (reaches_page off len k) (is_out (place boot past (record { obj = o; page = k }))) h).0))
+    (λ k l h. reached off len k (in_reach boot o off len r) (and_parts (reaches_page off len k) (is_out (place boot past (record { obj = o; page = k }))) h).0))
 
 -- a page of the object, reached, is needed where its place is out
 pub page-needed : (tables : TableValues) (past : List Entry) (o k : ℕ) (reaches found : Bool) → Stands tables past → o < length tables.boot.objects → k < (object_at tables.objects o).pages
@@ -127,7 +127,7 @@ page-declared tables past o k s l inside =
     let size : (object_at tables.objects o).pages ≡ pages_in tables.boot o = s.objects.sizes o l in
     let at = at-some tables.boot.objects o l in
     let told : slice_index_or tables.pages.sizes o 0 ≡ pages_in tables.boot o =
-        ap (λ sizes. slice_index_or sizes o 0) s.pages.page_sizes ∙ get_or-mapped (λ object. object.pages) tables.boot.objects o at.0 0 at.1 ∙ sym (ap (λ x. option_map_or (λ object. object.pages) x 0) at.1) in
+    ap (λ sizes. slice_index_or sizes o 0) s.pages.page_sizes ∙ get_or-mapped (λ object. object.pages) tables.boot.objects o at.0 0 at.1 ∙ sym (ap (λ x. option_map_or (λ object. object.pages) x 0) at.1) in
     record { object = omega (arith, count, l); inside = omega (arith, told, size, inside) }
 
 -- the free frames

@@ -1,6 +1,6 @@
 //! The purges.
 
-ghost use Rattle.std.specs.Prelude.{◌≡◌, ◌+◌, ◌-◌, ◌<◌, ◌≤◌, ◌∷◌, ◌&&◌, ℕ, List, None, Some, not, true, length, option_map, slice_index_or, IfSome, IsTrue};
+ghost use Rattle.std.specs.Prelude.{◌≡◌, ◌-◌, ◌<◌, ◌≤◌, ◌∷◌, ◌&&◌, ℕ, List, None, Some, not, true, length, option_map, slice_index_or, IfSome, IsTrue};
 ghost use Rattle.kern_ids.specs.declared.calls.Call.{Call as ACall};
 ghost use Rattle.kern_ids.specs.declared.calls.Call.TheVariants.{Forced as AskForced, PurgeOne as AskPurgeOne, Scan as AskScan};
 ghost use Rattle.kern_ids.specs.declared.calls.Queue.{Queue as AQueue};
@@ -16,67 +16,18 @@ ghost use Rattle.page_queues.specs.Pages.{inactive, is_marked, is_of_first, with
 ghost use Rattle.page_queues.specs.Tallies.{count_of};
 ghost use Rattle.token_list.specs.Dues.{lowered_by};
 ghost use Rattle.ripen_advance.specs.Queues.{dues_in};
-ghost use Rattle.vm_object.specs.Objects.{changed, object_at, purged};
-ghost use Rattle.kernel_tables.specs.Charges.{charge, framed_of, stored_of};
+ghost use Rattle.vm_object.specs.Objects.{changed, purged};
 ghost use Rattle.kernel_tables.specs.Emptying.{IsEmptying};
 ghost use Rattle.kernel_tables.specs.Picked.{IsPicked};
 ghost use Rattle.kernel_tables.specs.Stands.{AccountsStand, ObjectsStand, PagesStand, Stands};
 ghost use Rattle.kernel_tables.specs.Values.{values, entry_of};
 
 use crate::parts::{ObjectParts, Parts};
-use kern_ids::calls::State;
 use kern_ids::ids::{ObjId, ThreadId};
-use kern_ids::replies::{Counts, Reply};
+use kern_ids::replies::Reply;
 use purge_pick::choice::Pick;
 
-/// What so many pages in frames and so many Stored ones count for the owner of an object in a state.
-fn charge(state: State, framed: u32, stored: u32) -> Counts
-    requires framed { framed ≤ 512 }
-    requires stored { stored ≤ 256 }
-    ensures { result ≡ charge state framed stored }
-{
-    match state {
-        State::Nonvolatile => Counts {
-            res_non: framed,
-            res_vol: 0,
-            com_non: stored,
-            com_vol: 0,
-            footprint: framed + stored,
-        },
-        State::Volatile => Counts {
-            res_non: 0,
-            res_vol: framed,
-            com_non: 0,
-            com_vol: stored,
-            footprint: 0,
-        },
-        State::Empty => Counts {
-            res_non: 0,
-            res_vol: 0,
-            com_non: 0,
-            com_vol: 0,
-            footprint: 0,
-        },
-    }
-}
-
 impl ObjectParts {
-    /// What an object counts for its owner.
-    fn charge(&self, o: ObjId) -> Counts
-        requires object { o < length self.now.table }
-        requires sized { o < length self.now.pages.sizes }
-        requires framed { framed_of self.now.pages o ≤ 512 }
-        requires stored { stored_of self.now.pages o ≤ 256 }
-        ensures { result ≡ charge (object_at self.now.table o).state (framed_of self.now.pages o) (stored_of self.now.pages o) }
-    {
-        let places = self.pages.object_counts(o);
-        charge(
-            self.table.state(o),
-            places.active + places.inactive,
-            places.stored,
-        )
-    }
-
     /// All pages of an object become Absent, the tokens are told of those that were Inactive, and the object is
     /// EMPTY with no written page.
     fn empty(&mut self, o: ObjId)

@@ -26,13 +26,13 @@ unwrap-t-requires g c = owner-some c.args.self.now.boot g.past c.valid.ensures c
 pub take-requires-clause-task : goal.take-requires-clause-task
 take-requires-clause-task g c =
     let is = owner-told c.args.self.now.boot g.past c.valid.ensures c.args.o c.requires.1.1.1.1.0 c.args.self.now.objects.table c.requires.1.1.0 c.requires.1.1.1.1.1 c.unwrap-t.result c.owner.result c.owner.ensures.owner c.unwrap-t.ensures in
-    let told = c.charge-charge.ensures ∙ charge-told c.args.self.now.boot g.past c.valid.ensures c.args.o c.requires.1.1.1.1.0 c.args.self.now.objects.table c.requires.1.1.0 c.requires.1.1.1.1.1 c.args.self.now.objects.pages c.args.self.now.entered c.requires.0 in
+    let told = c.charge-charge.ensures.value ∙ charge-told c.args.self.now.boot g.past c.valid.ensures c.args.o c.requires.1.1.1.1.0 c.args.self.now.objects.table c.requires.1.1.0 c.requires.1.1.1.1.1 c.args.self.now.objects.pages c.args.self.now.entered c.requires.0 in
     owner-account c.args.self.now.boot g.past c.valid.ensures c.args.o c.requires.1.1.1.1.0 c.args.self.now.tasks.ledgers c.requires.1.1.1.0 c.unwrap-t.result is c.charge-charge.result told
 
 pub take-requires-clause-charged : goal.take-requires-clause-charged
 take-requires-clause-charged g c =
     let is = owner-told c.args.self.now.boot g.past c.valid.ensures c.args.o c.requires.1.1.1.1.0 c.args.self.now.objects.table c.requires.1.1.0 c.requires.1.1.1.1.1 c.unwrap-t.result c.owner.result c.owner.ensures.owner c.unwrap-t.ensures in
-    let told = c.charge-charge.ensures ∙ charge-told c.args.self.now.boot g.past c.valid.ensures c.args.o c.requires.1.1.1.1.0 c.args.self.now.objects.table c.requires.1.1.0 c.requires.1.1.1.1.1 c.args.self.now.objects.pages c.args.self.now.entered c.requires.0 in
+    let told = c.charge-charge.ensures.value ∙ charge-told c.args.self.now.boot g.past c.valid.ensures c.args.o c.requires.1.1.1.1.0 c.args.self.now.objects.table c.requires.1.1.0 c.requires.1.1.1.1.1 c.args.self.now.objects.pages c.args.self.now.entered c.requires.0 in
     charge-fits c.args.self.now.boot g.past c.valid.ensures c.args.o c.requires.1.1.1.1.0 c.args.self.now.tasks.ledgers c.requires.1.1.1.0 c.unwrap-t.result is c.charge-charge.result told
 
 pub empty-requires-clause-ahead : goal.empty-requires-clause-ahead
@@ -57,5 +57,5 @@ returns-clause-objects g c = λ e is. subst (λ (objects : List Object). Objects
 pub returns-clause-accounts : goal.returns-clause-accounts
 returns-clause-accounts g c = λ e is.
     let own = owner-told c.args.self.now.boot g.past c.valid.ensures c.args.o c.requires.1.1.1.1.0 c.args.self.now.objects.table c.requires.1.1.0 c.requires.1.1.1.1.1 c.unwrap-t.result c.owner.result c.owner.ensures.owner c.unwrap-t.ensures in
-    let told = c.charge-charge.ensures ∙ charge-told c.args.self.now.boot g.past c.valid.ensures c.args.o c.requires.1.1.1.1.0 c.args.self.now.objects.table c.requires.1.1.0 c.requires.1.1.1.1.1 c.args.self.now.objects.pages c.args.self.now.entered c.requires.0 in
+    let told = c.charge-charge.ensures.value ∙ charge-told c.args.self.now.boot g.past c.valid.ensures c.args.o c.requires.1.1.1.1.0 c.args.self.now.objects.table c.requires.1.1.0 c.requires.1.1.1.1.1 c.args.self.now.objects.pages c.args.self.now.entered c.requires.0 in
     subst (λ (accounts : List Account). AccountsStand c.args.self.now.boot (e ∷ g.past) accounts) (sym c.take.ensures) (accounts-told c.args.self.now.boot g.past c.valid.ensures c.args.o c.requires.1.1.1.1.0 c.args.self.now.tasks.ledgers c.requires.1.1.1.0 c.unwrap-t.result own c.charge-charge.result told e is)
