@@ -2,7 +2,7 @@
 #![tactic(auto)]
 
 ghost use Rattle.std.specs.Prelude.{◌≡◌, ◌<◌, length, set, replicate, Some, None, IfOk};
-ghost use Rattle.idle_ageing.specs.Ageing.{aged, ticked};
+ghost use Rattle.idle_ageing.specs.Ageing.{aged, ticked, IsPaired};
 
 mod counts;
 mod reached;
@@ -45,6 +45,13 @@ impl Ages {
             delays: kept,
             counts: no_counts(alloc, delays.len())?,
         })
+    }
+
+    /// What is true of all ages, for a proof that needs it.
+    pub fn are_paired(&self)
+        ensures { IsPaired self.now }
+    {
+        let _counts = &self.counts;
     }
 
     /// A task begins to count, from 0.

@@ -90,7 +90,7 @@ distinct-once (p ∷ ps) once = (
 pub pages-distinct : (boot : System) → Distinct (pages_of boot)
 pages-distinct boot = distinct-once (pages_of boot) (λ p h. let one : count_by (same_page p) (pages_of boot) ≡ 1 = pages-once boot p (has-pages boot p h) in omega arith)
 
-pair_lt-itself : (a : ℕ × ℕ) → pair_lt a a ≡ false
+pub pair_lt-itself : (a : ℕ × ℕ) → pair_lt a a ≡ false
 pair_lt-itself a = grind (arith, nat_tests)
 
 -- so the list of a place is as long as the place has pages

@@ -16,7 +16,7 @@ use Rattle.task_ledger.specs.declared.account.Account.{Account}
 use Rattle.vm_object.specs.Objects.{Object, object_at, owner as owner_in, IsObject}
 use Rattle.kernel_tables.specs.Stands.{ObjectsStand}
 use Rattle.kernel_tables.specs.Moves.{recharged, IsChargeable}
-use Rattle.kernel_tables.proofs.Charges.{ChargesHold, charged-page, recharged-room, recharge-holds, owner-declared}
+use Rattle.kernel_tables.proofs.PageCharges.{ChargesHold, charged-page, recharged-room, recharge-holds, owner-declared}
 use Rattle.kernel_tables.proofs.Owners.{owner-is, owned-mapped, recharged-is}
 
 pub page-object : (boot : System) (p : PageId) → Has (pages_of boot) p → p.obj < length boot.objects

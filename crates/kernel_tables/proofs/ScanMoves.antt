@@ -50,7 +50,7 @@ use Rattle.kernel_tables.specs.Moves.{moved_from, movable, moved_first, told_of,
 use Rattle.kernel_tables.proofs.Kept.{kept-objects}
 use Rattle.kernel_tables.proofs.PageKeys.{key_of-page}
 use Rattle.kernel_tables.proofs.PageMoves.{PagesHold, stamped, is_absent, placed-since, hold-placed, hold-absented, hold-stands, stands-hold}
-use Rattle.kernel_tables.proofs.Charges.{ChargesHold, charges-stand, page-fits, has-counted}
+use Rattle.kernel_tables.proofs.PageCharges.{ChargesHold, charges-stand, page-fits, has-counted}
 use Rattle.kernel_tables.proofs.OnlyPages.{OnlyPages, same-maps, same-mapped, same-state, same-deadlines, charged-stand, only-pages-stand}
 use Rattle.kernel_tables.proofs.Recharges.{page-object, recharge-can, recharge-does}
 

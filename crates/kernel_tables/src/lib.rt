@@ -5,7 +5,11 @@
 mod asks;
 mod beginnings;
 mod charging;
+mod decisions;
 pub mod law;
 mod parts;
+mod range_access;
+mod refusals;
 mod scans;
 pub mod tables;
+mod tasks;
