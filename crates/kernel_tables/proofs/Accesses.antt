@@ -31,7 +31,7 @@ use Rattle.kernel_model.proofs.Laws.Queues.{pair_lt-newer, range-has}
 use Rattle.kernel_model.proofs.Laws.Untouched.{pages-has}
 use Rattle.page_queues.specs.Pages.{Pages, IsPage, key_of, page_of, active as active_keys, inactive as inactive_keys, place as place_in, free as free_in, is_out as lacks_frame}
 use Rattle.ripen_advance.specs.Queues.{QueueDues}
-use Rattle.vm_object.specs.Objects.{Object, object_at, owner as owner_in, IsObject}
+use Rattle.vm_object.specs.Objects.{Object, object_at, owner as owner_in}
 use Rattle.task_ledger.specs.declared.account.Account.{Account}
 use Rattle.kernel_tables.specs.Values.{TableValues}
 use Rattle.kernel_tables.specs.Stands.{Stands, PagesStand, ObjectsStand, AccountsStand, HasDues}
@@ -73,18 +73,18 @@ never_out Inactive m n = refl
 never_out Stored m n = refl
 
 -- the account of the owner of a page that is touched
-module _ (boot : System) (past : List Entry) (objects : List Object) (accounts : List Account) (n : ℕ) (p : PageId) (f : PageId → Placed) (g : PageId → Bool) (pages : Pages) (v : IsValidBoot boot) (s : ObjectsStand boot past objects) (w : Has (pages_of boot) p) (is : IsObject (object_at objects p.obj)) (h : PagesHold boot f g pages) (c : ChargesHold boot past f accounts) where
+module _ (boot : System) (past : List Entry) (objects : List Object) (accounts : List Account) (n : ℕ) (p : PageId) (f : PageId → Placed) (g : PageId → Bool) (pages : Pages) (v : IsValidBoot boot) (s : ObjectsStand boot past objects) (w : Has (pages_of boot) p) (h : PagesHold boot f g pages) (c : ChargesHold boot past f accounts) where
   touch-can : (t : ℕ) → owner_in objects p.obj ≡ Some t → IsChargeable (object_at objects p.obj).state (place_in pages p) (place_touched (place_in pages p)) accounts t
   touch-can t owns =
       subst (λ x. IsChargeable (object_at objects p.obj).state x (place_touched x) accounts t) (sym (h.places p w))
       (subst (λ y. IsChargeable (object_at objects p.obj).state (f p).place y accounts t) (faulted-place n p f)
-      (recharge-can boot past objects accounts f (faulted_at n p f) p v s w is (faulted-other n p f) c t owns))
+      (recharge-can boot past objects accounts f (faulted_at n p f) p v s w (faulted-other n p f) c t owns))
 
   touch-does : ChargesHold boot past (faulted_at n p f) (charged_touch (owner_in objects p.obj) (object_at objects p.obj).state pages p accounts)
   touch-does =
       subst (λ x. ChargesHold boot past (faulted_at n p f) (recharged (owner_in objects p.obj) (object_at objects p.obj).state x (place_touched x) accounts)) (sym (h.places p w))
       (subst (λ y. ChargesHold boot past (faulted_at n p f) (recharged (owner_in objects p.obj) (object_at objects p.obj).state (f p).place y accounts)) (faulted-place n p f)
-      (recharge-does boot past objects accounts f (faulted_at n p f) p v s w is (faulted-other n p f) c))
+      (recharge-does boot past objects accounts f (faulted_at n p f) p v s w (faulted-other n p f) c))
 
 -- how many frames are taken, and how many are free
 frames-taken : (boot : System) (past : List Entry) (pages : Pages) (m : ℕ) → PagesStand boot past pages m → in_frames pages ≡ active_pages boot past + inactive_pages boot past
@@ -128,7 +128,7 @@ module _ (boot : System) (past : List Entry) (o off len : ℕ) (v : IsValidBoot 
   ]
 
   -- Over tables that stand for the history.
-  module _ (pages : Pages) (objects : List Object) (accounts : List Account) (m : ℕ) (three : length pages.queues ≡ 3) (marks : length pages.marks ≡ 256 * length pages.sizes) (stand : PagesStand boot past pages m) (s : ObjectsStand boot past objects) (is : IsObject (object_at objects o)) (a : AccountsStand boot past accounts) where
+  module _ (pages : Pages) (objects : List Object) (accounts : List Account) (m : ℕ) (three : length pages.queues ≡ 3) (marks : length pages.marks ≡ 256 * length pages.sizes) (stand : PagesStand boot past pages m) (s : ObjectsStand boot past objects) (a : AccountsStand boot past accounts) where
     abbrev f0 : PageId → Placed
     f0 = placed boot past
 
@@ -197,10 +197,10 @@ module _ (boot : System) (past : List Entry) (o off len : ℕ) (v : IsValidBoot 
     charges0 = charges-stand boot past accounts a
 
     charges1 : ChargesHold boot past f1 accounts1
-    charges1 = touch-does boot past objects accounts (length past) (first_page o off) f0 g0 pages v s first-has is hold0 charges0
+    charges1 = touch-does boot past objects accounts (length past) (first_page o off) f0 g0 pages v s first-has hold0 charges0
 
     charges2 : ChargesHold boot past f2 (charged_range (owner_in objects o) (object_at objects o).state pages o off len accounts)
-    charges2 = touch-does boot past objects accounts1 (length past) (last_page o off len) f1 g1 pages1 v s last-has is hold1 charges1
+    charges2 = touch-does boot past objects accounts1 (length past) (last_page o off len) f1 g1 pages1 v s last-has hold1 charges1
 
     -- enough frames are free
     module _ (enough : needed boot past o off len ≤ free boot past) where
@@ -262,7 +262,7 @@ module _ (boot : System) (past : List Entry) (o off len : ℕ) (v : IsValidBoot 
         page = sizes-of boot pages (first_page o off) stand.page_sizes r.object first-below;
         frame = frame1;
         object = (let c = s.object_count in let l = r.object in omega arith);
-        charged = touch-can boot past objects accounts (length past) (first_page o off) f0 g0 pages v s first-has is hold0 charges0;
+        charged = touch-can boot past objects accounts (length past) (first_page o off) f0 g0 pages v s first-has hold0 charges0;
       }
 
       pub can-last : CanTouch pages1 objects accounts1 (last_page o off len)
@@ -270,7 +270,7 @@ module _ (boot : System) (past : List Entry) (o off len : ℕ) (v : IsValidBoot 
         page = sizes-of boot pages1 (last_page o off len) (touched1.sizes ∙ stand.page_sizes) r.object last-below;
         frame = frame2;
         object = (let c = s.object_count in let l = r.object in omega arith);
-        charged = touch-can boot past objects accounts1 (length past) (last_page o off len) f1 g1 pages1 v s last-has is hold1 charges1;
+        charged = touch-can boot past objects accounts1 (length past) (last_page o off len) f1 g1 pages1 v s last-has hold1 charges1;
       }
 
     -- An entry that touches the pages of the range.
@@ -317,12 +317,12 @@ module _ (boot : System) (past : List Entry) (o off len : ℕ) (v : IsValidBoot 
       access-accounts = charged-stand boot e past only _ (charges-agree boot past f2 (placed boot (e ∷ past)) _ (λ q. sym (placed-range q)) charges2)
 
 -- the tables stand for the history with an accepted access, where the objects do
-pub access-stands : (tables : TableValues) (past : List Entry) (o off len : ℕ) (e : Entry) (objects : List Object) → IsValidBoot tables.boot → IsRange tables.boot o off len → length tables.pages.queues ≡ 3 → length tables.pages.marks ≡ 256 * length tables.pages.sizes → IsObject (object_at tables.objects o) → OnlyPages e → ((p : PageId) → move_of p e.reply ≡ None) → is_deactivation e.reply ≡ false → ((p : PageId) → touches past e p ≡ (nat_eq o p.obj && reaches_page off len p.page)) → IsLegal tables.boot (e ∷ past) → Stands tables past → ObjectsStand tables.boot (e ∷ past) objects → Stands (record tables { pages = touched_range tables.pages o off len; objects = objects; accounts = charged_range (owner_in tables.objects o) (object_at tables.objects o).state tables.pages o off len tables.accounts }) (e ∷ past)
-access-stands tables past o off len e objects v r three marks is only still quiet covers legal s written =
+pub access-stands : (tables : TableValues) (past : List Entry) (o off len : ℕ) (e : Entry) (objects : List Object) → IsValidBoot tables.boot → IsRange tables.boot o off len → length tables.pages.queues ≡ 3 → length tables.pages.marks ≡ 256 * length tables.pages.sizes → OnlyPages e → ((p : PageId) → move_of p e.reply ≡ None) → is_deactivation e.reply ≡ false → ((p : PageId) → touches past e p ≡ (nat_eq o p.obj && reaches_page off len p.page)) → IsLegal tables.boot (e ∷ past) → Stands tables past → ObjectsStand tables.boot (e ∷ past) objects → Stands (record tables { pages = touched_range tables.pages o off len; objects = objects; accounts = charged_range (owner_in tables.objects o) (object_at tables.objects o).state tables.pages o off len tables.accounts }) (e ∷ past)
+access-stands tables past o off len e objects v r three marks only still quiet covers legal s written =
     let boot = tables.boot in
     only-pages-stand tables e past (touched_range tables.pages o off len) tables.tokens objects _ tables.entered only legal s
-    (access-pages boot past o off len v r tables.pages tables.objects tables.accounts tables.entered three marks s.pages s.objects is s.accounts e only still quiet covers)
-    (s.queues.ahead ∙ sym (inactive-same boot past o off len v r tables.pages tables.objects tables.accounts tables.entered three marks s.pages s.objects is s.accounts e only still quiet covers))
-    (kept-dues boot e past tables.tokens (same-deadlines boot e past only) (left-same boot past o off len v r tables.pages tables.objects tables.accounts tables.entered three marks s.pages s.objects is s.accounts e only still quiet covers) s.queues.dues)
+    (access-pages boot past o off len v r tables.pages tables.objects tables.accounts tables.entered three marks s.pages s.objects s.accounts e only still quiet covers)
+    (s.queues.ahead ∙ sym (inactive-same boot past o off len v r tables.pages tables.objects tables.accounts tables.entered three marks s.pages s.objects s.accounts e only still quiet covers))
+    (kept-dues boot e past tables.tokens (same-deadlines boot e past only) (left-same boot past o off len v r tables.pages tables.objects tables.accounts tables.entered three marks s.pages s.objects s.accounts e only still quiet covers) s.queues.dues)
     written
-    (access-accounts boot past o off len v r tables.pages tables.objects tables.accounts tables.entered three marks s.pages s.objects is s.accounts e only still quiet covers)
+    (access-accounts boot past o off len v r tables.pages tables.objects tables.accounts tables.entered three marks s.pages s.objects s.accounts e only still quiet covers)

@@ -9,7 +9,6 @@ pub mod PageKeys
 pub mod PageMoves
 pub mod PageCharges
 pub mod OnlyPages
-pub mod Owners
 pub mod Recharges
 pub mod ScanMoves
 pub mod Touches

@@ -152,12 +152,12 @@ empty-read-stands tables past who o off len seen legal none s =
     (charged-stand boot e past only tables.accounts (charges-agree boot past (placed boot past) (placed boot (e ∷ past)) tables.accounts (λ q. sym (still q)) (charges-stand boot past tables.accounts s.accounts)))
 
 -- one of another object
-pub full-read-stands : (tables : TableValues) (past : List Entry) (who o off len : ℕ) (seen : List ℕ) → IsValidBoot tables.boot → IsRange tables.boot o off len → length tables.pages.queues ≡ 3 → length tables.pages.marks ≡ 256 * length tables.pages.sizes → IsObject (object_at tables.objects o) → IsLegal tables.boot (read_entry who o off len seen ∷ past) → is_empty (state past o) ≡ false → Stands tables past → Stands (record tables { pages = touched_range tables.pages o off len; accounts = charged_range (owner_in tables.objects o) (object_at tables.objects o).state tables.pages o off len tables.accounts }) (read_entry who o off len seen ∷ past)
-full-read-stands tables past who o off len seen v r three marks is legal full s =
+pub full-read-stands : (tables : TableValues) (past : List Entry) (who o off len : ℕ) (seen : List ℕ) → IsValidBoot tables.boot → IsRange tables.boot o off len → length tables.pages.queues ≡ 3 → length tables.pages.marks ≡ 256 * length tables.pages.sizes → IsLegal tables.boot (read_entry who o off len seen ∷ past) → is_empty (state past o) ≡ false → Stands tables past → Stands (record tables { pages = touched_range tables.pages o off len; accounts = charged_range (owner_in tables.objects o) (object_at tables.objects o).state tables.pages o off len tables.accounts }) (read_entry who o off len seen ∷ past)
+full-read-stands tables past who o off len seen v r three marks legal full s =
     let boot = tables.boot in
     let e = read_entry who o off len seen in
     let only = read-only who o off len seen in
-    access-stands tables past o off len e tables.objects v r three marks is only (λ p. refl) refl (read-touches past who o off len seen full) legal s
+    access-stands tables past o off len e tables.objects v r three marks only (λ p. refl) refl (read-touches past who o off len seen full) legal s
     (kept-objects boot e past tables.objects (same-maps boot e past only) (same-mapped boot e past only) (same-state boot e past only) (λ q. written-kept e past q refl) s.objects)
 
 -- the objects after a page more was written
@@ -254,5 +254,5 @@ module _ (boot : System) (past : List Entry) (who o off : ℕ) (bytes : List ℕ
 -- a Write
 pub write-stands : (tables : TableValues) (past : List Entry) (who o off : ℕ) (bytes : List ℕ) → IsValidBoot tables.boot → IsRange tables.boot o off (length bytes) → length tables.pages.queues ≡ 3 → length tables.pages.marks ≡ 256 * length tables.pages.sizes → IsObject (object_at tables.objects o) → IsLegal tables.boot (write_entry who o off bytes ∷ past) → Stands tables past → Stands (record tables { pages = touched_range tables.pages o off (length bytes); objects = written_range o off (length bytes) tables.objects; accounts = charged_range (owner_in tables.objects o) (object_at tables.objects o).state tables.pages o off (length bytes) tables.accounts }) (write_entry who o off bytes ∷ past)
 write-stands tables past who o off bytes v r three marks is legal s =
-    access-stands tables past o off (length bytes) (write_entry who o off bytes) (written_range o off (length bytes) tables.objects) v r three marks is (write-only who o off bytes) (λ p. refl) refl (write-touches past who o off bytes) legal s
+    access-stands tables past o off (length bytes) (write_entry who o off bytes) (written_range o off (length bytes) tables.objects) v r three marks (write-only who o off bytes) (λ p. refl) refl (write-touches past who o off bytes) legal s
     (written-stand tables.boot past who o off bytes tables.objects v r is s.objects)

@@ -135,7 +135,6 @@ impl Parts {
     {
         self.boot.valid();
         self.objects.pages.are_pages();
-        self.objects.table.is_object(o);
         if is_empty(self.objects.table.state(o)) {
             return Reply::Bytes(seen);
         }

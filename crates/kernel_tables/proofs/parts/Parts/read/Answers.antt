@@ -33,7 +33,7 @@ touch_range-requires-clause-first g c =
     let r = read-range t.boot g.past c.args.who c.args.o c.args.off c.args.len c.requires.1.0 c.requires.1.1.0 in
     let stood = s.objects.states c.args.o r.object (read-mapped t.boot g.past c.args.who c.args.o c.args.off c.args.len c.valid.ensures c.requires.1.0 c.requires.1.1.0) in
     let full : is_empty (state g.past c.args.o) ≡ false = sym (c.is_empty.ensures ∙ ap is_empty (c.state.ensures ∙ stood)) ∙ c.if-is_empty.false in
-    can-first t.boot g.past c.args.o c.args.off c.args.len c.valid.ensures r t.pages t.objects t.accounts t.entered c.are_pages.ensures.three c.are_pages.ensures.marks s.pages s.objects c.is_object.ensures s.accounts
+    can-first t.boot g.past c.args.o c.args.off c.args.len c.valid.ensures r t.pages t.objects t.accounts t.entered c.are_pages.ensures.three c.are_pages.ensures.marks s.pages s.objects s.accounts
     (read-enough t.boot g.past c.args.who c.args.o c.args.off c.args.len c.requires.1.1.0 full)
 
 pub touch_range-requires-clause-last : goal.touch_range-requires-clause-last
@@ -43,7 +43,7 @@ touch_range-requires-clause-last g c =
     let r = read-range t.boot g.past c.args.who c.args.o c.args.off c.args.len c.requires.1.0 c.requires.1.1.0 in
     let stood = s.objects.states c.args.o r.object (read-mapped t.boot g.past c.args.who c.args.o c.args.off c.args.len c.valid.ensures c.requires.1.0 c.requires.1.1.0) in
     let full : is_empty (state g.past c.args.o) ≡ false = sym (c.is_empty.ensures ∙ ap is_empty (c.state.ensures ∙ stood)) ∙ c.if-is_empty.false in
-    can-last t.boot g.past c.args.o c.args.off c.args.len c.valid.ensures r t.pages t.objects t.accounts t.entered c.are_pages.ensures.three c.are_pages.ensures.marks s.pages s.objects c.is_object.ensures s.accounts
+    can-last t.boot g.past c.args.o c.args.off c.args.len c.valid.ensures r t.pages t.objects t.accounts t.entered c.are_pages.ensures.three c.are_pages.ensures.marks s.pages s.objects s.accounts
     (read-enough t.boot g.past c.args.who c.args.o c.args.off c.args.len c.requires.1.1.0 full)
 
 pub returns-clause-reply : goal.returns-clause-reply
@@ -57,5 +57,5 @@ returns-clause-stands g c =
     let stood = s.objects.states c.args.o r.object (read-mapped t.boot g.past c.args.who c.args.o c.args.off c.args.len c.valid.ensures c.requires.1.0 c.requires.1.1.0) in
     let full : is_empty (state g.past c.args.o) ≡ false = sym (c.is_empty.ensures ∙ ap is_empty (c.state.ensures ∙ stood)) ∙ c.if-is_empty.false in
     rw (c.touch_range.ensures.pages, c.touch_range.ensures.ledgers)
-    (full-read-stands t g.past c.args.who c.args.o c.args.off c.args.len c.args.seen c.valid.ensures r c.are_pages.ensures.three c.are_pages.ensures.marks c.is_object.ensures
+    (full-read-stands t g.past c.args.who c.args.o c.args.off c.args.len c.args.seen c.valid.ensures r c.are_pages.ensures.three c.are_pages.ensures.marks
     (c.requires.1.0, read-reply t.boot g.past c.args.who c.args.o c.args.off c.args.len c.args.seen c.requires.1.1.0 c.requires.1.1.1, s.legal) full s)

@@ -21,7 +21,7 @@ touch_range-requires-clause-first g c =
     let t = values c.args.self.now in
     let s = c.requires.0 in
     let r = write-range t.boot g.past c.args.who c.args.o c.args.off c.args.bytes c.requires.1.0 c.requires.1.1 in
-    can-first t.boot g.past c.args.o c.args.off (length c.args.bytes) c.valid.ensures r t.pages t.objects t.accounts t.entered c.are_pages.ensures.three c.are_pages.ensures.marks s.pages s.objects c.is_object.ensures s.accounts
+    can-first t.boot g.past c.args.o c.args.off (length c.args.bytes) c.valid.ensures r t.pages t.objects t.accounts t.entered c.are_pages.ensures.three c.are_pages.ensures.marks s.pages s.objects s.accounts
     (write-enough t.boot g.past c.args.who c.args.o c.args.off c.args.bytes c.requires.1.1)
 
 pub touch_range-requires-clause-last : goal.touch_range-requires-clause-last
@@ -30,7 +30,7 @@ touch_range-requires-clause-last g c =
     let s = c.requires.0 in
     let r = write-range t.boot g.past c.args.who c.args.o c.args.off c.args.bytes c.requires.1.0 c.requires.1.1 in
     rw c.length_of-len.ensures
-    (can-last t.boot g.past c.args.o c.args.off (length c.args.bytes) c.valid.ensures r t.pages t.objects t.accounts t.entered c.are_pages.ensures.three c.are_pages.ensures.marks s.pages s.objects c.is_object.ensures s.accounts
+    (can-last t.boot g.past c.args.o c.args.off (length c.args.bytes) c.valid.ensures r t.pages t.objects t.accounts t.entered c.are_pages.ensures.three c.are_pages.ensures.marks s.pages s.objects s.accounts
     (write-enough t.boot g.past c.args.who c.args.o c.args.off c.args.bytes c.requires.1.1))
 
 pub mark_range-requires-clause-some : goal.mark_range-requires-clause-some
