@@ -11,10 +11,10 @@ use Rattle.kernel_model.specs.State.{state}
 use Rattle.kernel_model.specs.Contents.{empties}
 use Rattle.kernel_model.specs.Groups.{standing, stands_in, volatile}
 use Rattle.kernel_model.specs.Deadlines.{deadlines, set_by}
-use Rattle.kernel_model.specs.Pages.{placed, inactive_pages}
+use Rattle.kernel_model.specs.Pages.{placed, touched_since, touches, move_of, inactive_pages}
 use Rattle.kernel_model.specs.Bands.{wish, active, limits, placing, band, ticks, counts_for_ageing, sets_band, sets_active, band_call, active_call, limits_call, aged_tasks, is_tick_call}
 use Rattle.kernel_model.specs.Histories.{IsLegal}
-use Rattle.kernel_model.proofs.Laws.Kept.{live-kept, maps-kept, mapped-kept, owner-kept, unmaps-kept, standing-kept, volatile-kept, stands_in-kept, deadlines-kept, wish-kept, active-kept, limits-kept, placing-kept, band-kept, ticks-kept, counts_for_ageing-kept}
+use Rattle.kernel_model.proofs.Laws.Kept.{live-kept, maps-kept, mapped-kept, owner-kept, unmaps-kept, placed-kept, touched_since-kept, standing-kept, volatile-kept, stands_in-kept, deadlines-kept, wish-kept, active-kept, limits-kept, placing-kept, band-kept, ticks-kept, counts_for_ageing-kept}
 use Rattle.kernel_model.proofs.Laws.State.{state-kept}
 use Rattle.page_queues.specs.Pages.{Pages}
 use Rattle.ripen_advance.specs.Queues.{QueueDues}
@@ -23,7 +23,7 @@ use Rattle.task_ledger.specs.declared.account.Account.{Account}
 use Rattle.kernel_tables.specs.Values.{TableValues}
 use Rattle.kernel_tables.specs.Stands.{Stands, PagesStand, ObjectsStand, AccountsStand, HasDues}
 use Rattle.kernel_tables.proofs.Kept.{kept-groups, kept-bands}
-use Rattle.kernel_tables.proofs.Charges.{ChargesHold, accounts-later}
+use Rattle.kernel_tables.proofs.PageCharges.{ChargesHold, accounts-later}
 
 -- an entry that says nothing but of pages
 pub record OnlyPages (e : Entry) : Type 0 where
@@ -81,6 +81,13 @@ module _ (boot : System) (e : Entry) (before : List Entry) (s : OnlyPages e) whe
 
   pub none-emptied : (o : ℕ) → empties o before e ≡ false
   none-emptied o = rw (s.map o, s.purged, s.wish o) refl
+
+  -- a page that it neither touches nor moves stays
+  pub idle-placed : (q : PageId) → touches before e q ≡ false → move_of q e.reply ≡ None → placed boot (e ∷ before) q ≡ placed boot before q
+  idle-placed q t m = placed-kept boot e before q (rw (none-emptied q.obj, none-unmapped q.obj, t, m) refl)
+
+  pub idle-touched : (q : PageId) → touches before e q ≡ false → move_of q e.reply ≡ None → touched_since boot (e ∷ before) q ≡ touched_since boot before q
+  idle-touched q t m = touched_since-kept boot e before q (rw (none-emptied q.obj, none-unmapped q.obj, t, m) refl)
 
   same-standing : (o : ℕ) → standing (e ∷ before) o ≡ standing before o
   same-standing o = standing-kept e before o (rw (s.wish o) refl)

@@ -53,7 +53,7 @@ present-active Absent h = absurd (false≢true h)
 present-active Inactive h = absurd (false≢true h)
 present-active Stored h = absurd (false≢true h)
 
-present-inactive : (x : Place) → is_inactive x ≡ true → is_absent x ≡ false
+pub present-inactive : (x : Place) → is_inactive x ≡ true → is_absent x ≡ false
 present-inactive Inactive h = refl
 present-inactive Absent h = absurd (false≢true h)
 present-inactive Active h = absurd (false≢true h)

@@ -42,7 +42,7 @@ use Rattle.token_list.specs.Dues.{lowered_by}
 use Rattle.ripen_advance.specs.Queues.{QueueDues, dues_in}
 use Rattle.purge_pick.specs.Follows.{Follows}
 use Rattle.purge_pick.proofs.FollowLemmas.{departed-follows}
-use Rattle.vm_object.specs.Objects.{Object, object_at, owner as owner_in, IsObject}
+use Rattle.vm_object.specs.Objects.{Object, object_at, owner as owner_in}
 use Rattle.task_ledger.specs.declared.account.Account.{Account}
 use Rattle.kernel_tables.specs.Values.{TableValues, entry_of}
 use Rattle.kernel_tables.specs.Stands.{Stands, PagesStand, HasDues}
@@ -50,7 +50,7 @@ use Rattle.kernel_tables.specs.Moves.{moved_from, movable, moved_first, told_of,
 use Rattle.kernel_tables.proofs.Kept.{kept-objects}
 use Rattle.kernel_tables.proofs.PageKeys.{key_of-page}
 use Rattle.kernel_tables.proofs.PageMoves.{PagesHold, stamped, is_absent, placed-since, hold-placed, hold-absented, hold-stands, stands-hold}
-use Rattle.kernel_tables.proofs.Charges.{ChargesHold, charges-stand, page-fits, has-counted}
+use Rattle.kernel_tables.proofs.PageCharges.{ChargesHold, charges-stand, page-fits, has-counted}
 use Rattle.kernel_tables.proofs.OnlyPages.{OnlyPages, same-maps, same-mapped, same-state, same-deadlines, charged-stand, only-pages-stand}
 use Rattle.kernel_tables.proofs.Recharges.{page-object, recharge-can, recharge-does}
 
@@ -300,18 +300,18 @@ same_sizes pages Compressed = refl
 same_sizes pages Requeued = refl
 
 -- the account of the owner may be recounted
-module _ (tables : TableValues) (past : List Entry) (who : ℕ) (how : Move) (p : PageId) (v : IsValidBoot tables.boot) (is : IsObject (object_at tables.objects p.obj)) (can : CanMove tables past how p) (s : Stands tables past) where
+module _ (tables : TableValues) (past : List Entry) (who : ℕ) (how : Move) (p : PageId) (v : IsValidBoot tables.boot) (can : CanMove tables past how p) (s : Stands tables past) where
   pub move-chargeable : (t : ℕ) → owner_in tables.objects p.obj ≡ Some t → IsChargeable (object_at tables.objects p.obj).state (moved_from how) (moved_to how) tables.accounts t
   move-chargeable t owns =
       subst (λ x. IsChargeable (object_at tables.objects p.obj).state x (moved_to how) tables.accounts t) can.from
       (subst (λ y. IsChargeable (object_at tables.objects p.obj).state (place tables.boot past p) y tables.accounts t) (moved-place tables.boot past who how p)
-      (recharge-can tables.boot past tables.objects tables.accounts (placed tables.boot past) (placed tables.boot (moved_entry who how p ∷ past)) p v s.objects can.listed is (moved-other tables.boot past who how p) (charges-stand tables.boot past tables.accounts s.accounts) t owns))
+      (recharge-can tables.boot past tables.objects tables.accounts (placed tables.boot past) (placed tables.boot (moved_entry who how p ∷ past)) p v s.objects can.listed (moved-other tables.boot past who how p) (charges-stand tables.boot past tables.accounts s.accounts) t owns))
 
   move-charged : ChargesHold tables.boot past (placed tables.boot (moved_entry who how p ∷ past)) (recharged (owner_in tables.objects p.obj) (object_at tables.objects p.obj).state (moved_from how) (moved_to how) tables.accounts)
   move-charged =
       subst (λ x. ChargesHold tables.boot past (placed tables.boot (moved_entry who how p ∷ past)) (recharged (owner_in tables.objects p.obj) (object_at tables.objects p.obj).state x (moved_to how) tables.accounts)) can.from
       (subst (λ y. ChargesHold tables.boot past (placed tables.boot (moved_entry who how p ∷ past)) (recharged (owner_in tables.objects p.obj) (object_at tables.objects p.obj).state (place tables.boot past p) y tables.accounts)) (moved-place tables.boot past who how p)
-      (recharge-does tables.boot past tables.objects tables.accounts (placed tables.boot past) (placed tables.boot (moved_entry who how p ∷ past)) p v s.objects can.listed is (moved-other tables.boot past who how p) (charges-stand tables.boot past tables.accounts s.accounts)))
+      (recharge-does tables.boot past tables.objects tables.accounts (placed tables.boot past) (placed tables.boot (moved_entry who how p ∷ past)) p v s.objects can.listed (moved-other tables.boot past who how p) (charges-stand tables.boot past tables.accounts s.accounts)))
 
   -- the tables stand for the history with the move
   pub move-stands : length tables.pages.queues ≡ 3 → IsTrue (fits tables.boot who Scan) → answer tables.boot past who Scan ≡ Moved how p → Stands (record tables { pages = moved_first tables.pages how; tokens = told_of how tables.tokens; accounts = recharged (owner_in tables.objects p.obj) (object_at tables.objects p.obj).state (moved_from how) (moved_to how) tables.accounts; entered = entered_by how tables.entered }) (moved_entry who how p ∷ past)

@@ -21,7 +21,7 @@ use Rattle.page_queues.specs.Tallies.{taken}
 use Rattle.page_queues.specs.Pages.{Pages, key_of, active as active_keys, inactive as inactive_keys, place as place_in, placed as placed_in, is_out as lacks_frame, is_inactive as stands_inactive}
 use Rattle.page_queues.proofs.KeptLemmas.{length-without_le}
 use Rattle.kernel_tables.specs.Moves.{touched, place_touched}
-use Rattle.kernel_tables.proofs.Charges.{has-counted}
+use Rattle.kernel_tables.proofs.PageCharges.{has-counted}
 use Rattle.kernel_tables.proofs.Lists.{placed-at}
 use Rattle.kernel_tables.proofs.PageMoves.{PagesHold, stamped, is_absent, hold-placed, hold-marked, hold-agree}
 
@@ -64,10 +64,10 @@ module _ (n : ℕ) (p : PageId) (f : PageId → Placed) where
   pub faulted-other : (q : PageId) → same_page p q ≡ false → faulted_at n p f q ≡ f q
   faulted-other q off = ap (λ b. if b && is_out (f q).place then put_at Active n else f q) off
 
-  faulted-here : is_out (f p).place ≡ true → faulted_at n p f p ≡ put_at Active n
+  pub faulted-here : is_out (f p).place ≡ true → faulted_at n p f p ≡ put_at Active n
   faulted-here out = ap₂ (λ a b. if a && b then put_at Active n else f p) (same_itself p) out
 
-  faulted-stays : is_out (f p).place ≡ false → (q : PageId) → faulted_at n p f q ≡ f q
+  pub faulted-stays : is_out (f p).place ≡ false → (q : PageId) → faulted_at n p f q ≡ f q
   faulted-stays held q = elim (cases_Bool (same_page p q)) [
     | inl same ↦ subst (λ r. faulted_at n p f r ≡ f r) (sym (same_page-is p q same)) (ap₂ (λ a b. if a && b then put_at Active n else f p) (same_itself p) held)
     | inr off ↦ faulted-other q off

@@ -1,8 +1,11 @@
 -- What a touch, a fault and a move of the scan make of the pages, of the tokens and of the account of an owner.
-use Rattle.std.specs.Prelude.{◌≡◌, ℕ, ◌+◌, ◌-◌, ◌*◌, ◌/◌, ◌^◌, ◌<◌, ◌≤◌, Bool, true, false, ◌&&◌, List, length, set, Option, Some, None, slice_index_or, if◌then◌else◌}
+use Rattle.std.specs.Prelude.{◌≡◌, ℕ, ◌+◌, ◌-◌, ◌*◌, ◌/◌, ◌^◌, ◌<◌, ◌≤◌, Bool, true, false, ◌&&◌, List, length, set, Option, Some, None, option_map, slice_get, slice_index_or, if◌then◌else◌}
+use Rattle.std.specs.Option.{option_map_or}
 use Rattle.kern_ids.specs.declared.calls.State.{State}
 use Rattle.kern_ids.specs.declared.ids.PageId.{PageId}
 use Rattle.kern_ids.specs.declared.replies.Counts.{Counts}
+use Rattle.kern_ids.specs.declared.replies.Reply.{Reply}
+use Rattle.kern_ids.specs.declared.replies.Reply.TheVariants.{Enough, Moved, Purged, Idle}
 use Rattle.kern_ids.specs.declared.replies.Move.{Move}
 use Rattle.kern_ids.specs.declared.replies.Move.TheVariants.{Deactivated, Reactivated, Freed, Compressed, Requeued}
 use Rattle.kernel_model.specs.declared.place.Place.{Place}
@@ -12,8 +15,10 @@ use Rattle.kernel_model.specs.Counted.{is_nonvolatile_state}
 use Rattle.kernel_model.specs.System.{System}
 use Rattle.kernel_model.specs.Pages.{is_stored, pages_in}
 use Rattle.kernel_model.specs.Laws.Frames.{bit, is_in}
-use Rattle.page_queues.specs.Pages.{Pages, key_of, active, inactive, placed, absented, place, free, IsPage, is_out, is_inactive}
-use Rattle.vm_object.specs.Objects.{Object, object_at, owner, changed, with_written}
+use Rattle.page_queues.specs.Pages.{Pages, key_of, active, inactive, placed, absented, place, page_of, free, IsPage, is_out, is_inactive}
+use Rattle.pageout_scan.specs.declared.plan.ScanPlan.{ScanPlan}
+use Rattle.pageout_scan.specs.declared.plan.ScanPlan.TheVariants.{Enough as PlanEnough, Deactivate, Purge, Reactivate, Free, Compress, Requeue, Idle as PlanIdle}
+use Rattle.vm_object.specs.Objects.{Object, object_at, owner, is_written, changed, with_written}
 use Rattle.token_list.specs.Dues.{lowered_by}
 use Rattle.ripen_advance.specs.Queues.{QueueDues}
 use Rattle.task_ledger.specs.declared.account.Account.{Account}
@@ -93,12 +98,15 @@ abbrev pub CanTell : Move → ℕ → Type 0
 CanTell Deactivated ahead = ahead + 1 < 2 ^ 32
 CanTell _ ahead = 1 ≤ ahead
 
--- the pages that have the first and the last byte of a range of an object
+-- a page of an object, and those that have the first and the last byte of a range of it
+abbrev pub page_at : ℕ → ℕ → PageId
+page_at o page = record { obj = o; page = page }
+
 abbrev pub first_page : ℕ → ℕ → PageId
-first_page o off = record { obj = o; page = off / 4096 }
+first_page o off = page_at o (off / 4096)
 
 abbrev pub last_page : ℕ → ℕ → ℕ → PageId
-last_page o off len = record { obj = o; page = (off + len - 1) / 4096 }
+last_page o off len = page_at o ((off + len - 1) / 4096)
 
 -- the pages after a touch of both
 abbrev pub touched_range : Pages → ℕ → ℕ → ℕ → Pages
@@ -128,3 +136,26 @@ pub record CanTouch (pages : Pages) (objects : List Object) (accounts : List Acc
 -- the objects after the pages of a range were written
 abbrev pub written_range : ℕ → ℕ → ℕ → List Object → List Object
 written_range o off len objects = changed (changed objects o (with_written (off / 4096))) o (with_written ((off + len - 1) / 4096))
+
+-- whether the Inactive page that was placed first is a written one
+abbrev pub first_written : Pages → List Object → Bool
+first_written pages objects = option_map_or (λ key. is_written objects (page_of key).obj (page_of key).page) (slice_get (inactive pages) 0) false
+
+-- the first page of a queue
+abbrev pub first_of : List ℕ → Option PageId
+first_of keys = option_map page_of (slice_get keys 0)
+
+-- a move of a page, where there is one
+abbrev pub reply_moved : Move → Option PageId → Reply
+reply_moved how first = option_map_or (Moved how) first Idle
+
+-- what is answered to a scan with a plan
+abbrev pub reply_of : Pages → ScanPlan → Reply
+reply_of pages PlanEnough = Enough
+reply_of pages Deactivate = reply_moved Deactivated (first_of (active pages))
+reply_of pages (Purge o) = Purged o
+reply_of pages Reactivate = reply_moved Reactivated (first_of (inactive pages))
+reply_of pages Free = reply_moved Freed (first_of (inactive pages))
+reply_of pages Compress = reply_moved Compressed (first_of (inactive pages))
+reply_of pages Requeue = reply_moved Requeued (first_of (inactive pages))
+reply_of pages PlanIdle = Idle

@@ -5,12 +5,14 @@
 mod asks;
 mod beginnings;
 mod charging;
+mod decisions;
 pub mod law;
 mod mapping;
 mod page_charges;
 mod parts;
 mod placings;
 mod purges;
+mod range_access;
 mod refusals;
 mod scans;
 pub mod tables;

@@ -98,7 +98,6 @@ impl Parts {
     {
         self.boot.valid();
         self.objects.pages.are_pages();
-        self.objects.table.is_object(p.obj);
         recharge(
             &self.objects.table,
             &mut self.tasks.ledgers,
