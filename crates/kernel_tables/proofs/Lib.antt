@@ -37,7 +37,6 @@ pub mod Positions
 pub mod TickCall
 pub mod VerdictLemmas
 pub mod VerdictCall
-pub mod Owners
 pub mod Accesses
 pub mod ReadWrite
 pub mod HeldMapped
