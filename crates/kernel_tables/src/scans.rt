@@ -11,7 +11,7 @@ ghost use Rattle.kernel_tables.specs.Values.{values, entry_of};
 ghost use Rattle.kernel_tables.specs.Stands.{Stands};
 ghost use Rattle.kernel_tables.specs.Moves as moves;
 
-use crate::charging::recharge;
+use crate::page_charges::recharge;
 use crate::parts::Parts;
 use kern_ids::ids::{PageId, ThreadId};
 use kern_ids::replies::{Move, Reply};

@@ -4,7 +4,7 @@ use Rattle.kern_ids.specs.declared.replies.Counts.{Counts}
 use Rattle.task_ledger.specs.declared.account.Account.{Account}
 use Rattle.task_ledger.specs.Accounts.{account_of, no_account, counts_plus, counts_less, with_counts}
 use Rattle.kernel_tables.specs.Moves.{one_page}
-use Rattle.kernel_tables.proofs.charging.recount.Goals as goal
+use Rattle.kernel_tables.proofs.page_charges.recount.Goals as goal
 
 -- counts that become others twice
 twice : (accounts : List Account) (t : ℕ) (a : Counts) (g : Counts → Counts) → t < length accounts → with_counts (with_counts accounts t a) t (g (account_of (with_counts accounts t a) t).counts) ≡ with_counts accounts t (g a)

@@ -1,7 +1,7 @@
 use Rattle.std.proofs.Common.{◌≡◌, sym, ◌∙◌, subst}
 use Rattle.kern_ids.specs.declared.calls.State.{State}
 use Rattle.kernel_tables.specs.Moves.{IsChargeable}
-use Rattle.kernel_tables.proofs.charging.recharge.Goals as goal
+use Rattle.kernel_tables.proofs.page_charges.recharge.Goals as goal
 
 pub recount-requires : goal.recount-requires
 recount-requires c =
