@@ -4,7 +4,7 @@
 
 mod asks;
 mod beginnings;
-mod charging;
+mod page_charges;
 mod decisions;
 pub mod law;
 mod mapping;
