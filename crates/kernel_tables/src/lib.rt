@@ -4,7 +4,7 @@
 
 mod asks;
 mod beginnings;
-mod page_charges;
+mod charging;
 mod decisions;
 pub mod law;
 mod mapping;
