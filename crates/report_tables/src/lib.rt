@@ -2,7 +2,14 @@
 //! answered as it was, and the line of a trial.
 #![tactic(auto)]
 
+mod history_facts;
+mod lines;
+mod rows;
+mod table;
 mod tally;
 mod trial;
 
+pub use history_facts::Facts;
+pub use rows::{LiveTask, MappedObject, ObjectFacts, TaskFacts};
+pub use table::table_text;
 pub use trial::summary;

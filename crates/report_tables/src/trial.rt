@@ -1,15 +1,14 @@
 //! The line of a trial.
 
 ghost use Rattle.std.specs.Prelude.{◌≡◌, ◌≤◌, ◌+◌, ◌++◌, ◌∷◌, [], length, count_by};
-ghost use Rattle.std.specs.Fmt.{decimal};
 ghost use Rattle.report_tables.specs.Summary.{is_refusal, is_purging, is_killing, is_freeing, is_compressing, replies, tally, tally_words, summary_text};
 ghost use Rattle.line_text.specs.Cut.{line_of};
 
+use crate::lines::push_field;
 use crate::tally::Tally;
 use kern_ids::entries::{Entry, EntryList};
 use kern_ids::lines::LineBuf;
 use kern_ids::replies::{Move, Reply};
-use line_text::push_decimal;
 
 /// How many replies purge an object.
 pub(crate) fn purged(entries: &[Entry]) -> usize
@@ -58,16 +57,6 @@ fn compressed(entries: &[Entry]) -> usize
         .count()
 }
 
-/// Appends a fixed part and a number.
-pub(crate) fn push_field(line: &mut LineBuf, name: &[u8], n: usize)
-    requires { length line.old + length name.now + 20 ≤ 1100 }
-    ensures bytes { line.new ≡ line.old ++ (name.now ++ decimal n) }
-    ensures room { length line.new ≤ length line.old + length name.now + 20 }
-{
-    line.push(name);
-    push_decimal(line, n as u64);
-}
-
 fn tally(entries: &[Entry]) -> Tally
     ensures { result ≡ tally entries.now }
 {
@@ -85,12 +74,12 @@ fn tally_line(tally: &Tally) -> LineBuf
     ensures { result ≡ line_of (tally_words tally.now) ++ 10 ∷ [] }
 {
     let mut line = LineBuf::new();
-    push_field(&mut line, b"entries ", tally.entries);
-    push_field(&mut line, b" refused ", tally.refused);
-    push_field(&mut line, b" purged ", tally.purged);
-    push_field(&mut line, b" killed ", tally.killed);
-    push_field(&mut line, b" freed ", tally.freed);
-    push_field(&mut line, b" compressed ", tally.compressed);
+    push_field(&mut line, b"entries ", tally.entries as u64);
+    push_field(&mut line, b" refused ", tally.refused as u64);
+    push_field(&mut line, b" purged ", tally.purged as u64);
+    push_field(&mut line, b" killed ", tally.killed as u64);
+    push_field(&mut line, b" freed ", tally.freed as u64);
+    push_field(&mut line, b" compressed ", tally.compressed as u64);
     line.push(b"\n");
     line
 }

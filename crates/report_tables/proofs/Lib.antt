@@ -1,0 +1,3 @@
+pub mod PageCounts
+pub mod FactsFrom
+pub mod LineLaws
