@@ -1,3 +1,4 @@
 pub mod PageCounts
 pub mod FactsFrom
 pub mod LineLaws
+pub mod JsonLaws

@@ -1,3 +1,4 @@
 pub mod Summary
 pub mod Facts
 pub mod Table
+pub mod Json

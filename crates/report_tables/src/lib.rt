@@ -3,6 +3,7 @@
 #![tactic(auto)]
 
 mod history_facts;
+mod json_report;
 mod lines;
 mod rows;
 mod table;
@@ -10,6 +11,7 @@ mod tally;
 mod trial;
 
 pub use history_facts::Facts;
+pub use json_report::json_text;
 pub use rows::{LiveTask, MappedObject, ObjectFacts, TaskFacts};
 pub use table::table_text;
 pub use trial::summary;
