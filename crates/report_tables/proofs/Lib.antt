@@ -2,3 +2,5 @@ pub mod PageCounts
 pub mod FactsFrom
 pub mod LineLaws
 pub mod JsonLaws
+pub mod Emptied
+pub mod Explained

@@ -2,3 +2,4 @@ pub mod Summary
 pub mod Facts
 pub mod Table
 pub mod Json
+pub mod Reasons
