@@ -1,22 +1,35 @@
 -- The calls that only ask: what they get, and that the tables stay as they have to be.
-use Rattle.std.proofs.Common.{◌≡◌, ℕ, ◌+◌, ◌-◌, ◌≤◌, List, [], ◌∷◌, length, map, Option, Some, None, refl, sym, ap, ap₂, ◌∙◌, subst, Bool, true, false, ◌&&◌, nat_lt}
+use Rattle.std.proofs.Common.{◌≡◌, ℕ, ◌+◌, ◌-◌, ◌≤◌, ◌<◌, not, List, [], ◌∷◌, length, map, Option, Some, None, refl, sym, ap, ap₂, ◌∙◌, subst, Bool, true, false, ◌&&◌, nat_lt}
 use Rattle.std.specs.Prelude.{IsTrue, is_some}
+use Rattle.std.specs.Option.{unwrap_or, option_map_or}
 use Rattle.std.proofs.lemmas.Bool.{true≢false, and_parts}
 use Rattle.std.proofs.lemmas.List.{length-map}
 use Rattle.kern_ids.specs.declared.entries.Entry.{Entry}
 use Rattle.kern_ids.specs.declared.calls.Call.{Call}
-use Rattle.kern_ids.specs.declared.calls.Call.TheVariants.{Info, Purgeables}
+use Rattle.kern_ids.specs.declared.calls.Call.TheVariants.{Info, Purgeables, GetState, Ledger, Tick}
+use Rattle.kern_ids.specs.declared.calls.State.{State}
+use Rattle.kern_ids.specs.declared.replies.Refusal.{Refusal}
+use Rattle.kern_ids.specs.declared.replies.Counts.{Counts}
 use Rattle.kern_ids.specs.declared.calls.Queue.{Queue}
 use Rattle.kern_ids.specs.declared.calls.Queue.TheVariants.{Obsolete, Lifo, Fifo}
 use Rattle.kern_ids.specs.declared.replies.Reply.{Reply}
-use Rattle.kern_ids.specs.declared.replies.Reply.TheVariants.{Frames, Tokens}
+use Rattle.kern_ids.specs.declared.replies.Reply.TheVariants.{Frames, Tokens, Is, Refused, Pages as Told}
 use Rattle.kern_ids.specs.declared.replies.QueueCounts.{QueueCounts}
 use Rattle.kern_ids.specs.declared.replies.TokenCounts.{TokenCounts}
 use Rattle.kernel_model.specs.System.{System}
 use Rattle.kernel_model.specs.Events.{task_of}
 use Rattle.kernel_model.specs.Pages.{active_pages, inactive_pages, stored_pages, is_active, is_inactive, is_stored, free, left, entered}
 use Rattle.kernel_model.specs.Deadlines.{deadlines, of_queue}
-use Rattle.kernel_model.specs.Answers.{answer, refusal, frames_reply, tokens_reply, queue_counts}
+use Rattle.kernel_model.specs.Answers.{answer, refusal, accepted_answer, frames_reply, tokens_reply, queue_counts}
+use Rattle.kernel_model.specs.Valid.{IsValidBoot}
+use Rattle.kernel_model.specs.State.{state}
+use Rattle.kernel_model.specs.Mapping.{maps, mapped}
+use Rattle.kernel_model.specs.Bands.{is_tick_call}
+use Rattle.kernel_model.proofs.Laws.Answers.{accepted-no_object}
+use Rattle.kernel_model.proofs.Laws.Held.{maps_mapped, not_false}
+use Rattle.task_ledger.specs.Accounts.{account_of}
+use Rattle.kernel_tables.proofs.Accepted.{accepted-answer}
+use Rattle.kernel_tables.proofs.Asked.{fits-asked}
 use Rattle.kernel_model.specs.Histories.{fits, same, is_task_call, names_fit}
 use Rattle.kernel_model.specs.Laws.Kinds.{is_quiet}
 use Rattle.kernel_model.proofs.Laws.Kept.{quiet-unchanged}
@@ -50,7 +63,7 @@ info-answer : (boot : System) (past : List Entry) (who : ℕ) → task_of boot w
 unfolding answer refusal
 info-answer boot past who none = rw none refl
 
-active-are : (tables : TableValues) (past : List Entry) → Stands tables past → length (active_keys tables.pages) ≡ active_pages tables.boot past
+pub active-are : (tables : TableValues) (past : List Entry) → Stands tables past → length (active_keys tables.pages) ≡ active_pages tables.boot past
 active-are tables past s = sym (length-map (active_keys tables.pages) page_of) ∙ sym (pages-count tables.boot past is_active _ s.pages.active_order)
 
 pub inactive-are : (tables : TableValues) (past : List Entry) → Stands tables past → length (inactive_keys tables.pages) ≡ inactive_pages tables.boot past
@@ -99,3 +112,46 @@ pub purgeables-stands : (tables : TableValues) (past : List Entry) (who : ℕ) (
 purgeables-stands tables past who reply f answered s =
     let told = answered ∙ purgeables-answer tables.boot past who (of_kernel tables.boot who Purgeables refl f) in
     asked-stands tables past who Purgeables reply f answered (subst (λ r. is_quiet (entry_of who Purgeables r) ≡ true) (sym told) refl) s
+
+-- GetState
+pub state-is : (boot : System) (past : List Entry) (who o : ℕ) (s : State) → refusal boot past who (GetState o) ≡ None → s ≡ state past o → Is s ≡ answer boot past who (GetState o)
+state-is boot past who o s h e = ap Is e ∙ sym (accepted-answer boot past who (GetState o) h)
+
+pub state-stands : (tables : TableValues) (past : List Entry) (who o : ℕ) (s : State) → IsTrue (fits tables.boot who (GetState o)) → Is s ≡ answer tables.boot past who (GetState o) → Stands tables past → Stands tables (entry_of who (GetState o) (Is s) ∷ past)
+state-stands tables past who o s f answered st = asked-stands tables past who (GetState o) (Is s) f answered refl st
+
+-- the object is declared, and mapped
+pub state-asks : (boot : System) (past : List Entry) (who o : ℕ) → IsValidBoot boot → IsTrue (fits boot who (GetState o)) → refusal boot past who (GetState o) ≡ None → (o < length boot.objects) × (mapped boot past o ≡ true)
+state-asks boot past who o v f h =
+    let asked = fits-asked boot who (GetState o) v f in
+    let maps_it : maps boot past o (unwrap_or (task_of boot who) 0) ≡ true = not_false (maps boot past o (unwrap_or (task_of boot who) 0)) (accepted-no_object boot past who (GetState o) h) in
+    (asked.object, maps_mapped boot past o (unwrap_or (task_of boot who) 0) (asked.caller refl) maps_it)
+
+-- Ledger
+pub ledger-asks : (tables : TableValues) (past : List Entry) (who : ℕ) → IsValidBoot tables.boot → IsTrue (fits tables.boot who Ledger) → Stands tables past → unwrap_or (task_of tables.boot who) 0 < length tables.accounts
+ledger-asks tables past who v f s = let l = (fits-asked tables.boot who Ledger v f).caller refl in rw (s.accounts.account_count) l
+
+pub ledger-is : (tables : TableValues) (past : List Entry) (who : ℕ) (c : Counts) → IsValidBoot tables.boot → IsTrue (fits tables.boot who Ledger) → refusal tables.boot past who Ledger ≡ None → Stands tables past → c ≡ (account_of tables.accounts (unwrap_or (task_of tables.boot who) 0)).counts → Told c ≡ answer tables.boot past who Ledger
+ledger-is tables past who c v f h s e =
+    let l = (fits-asked tables.boot who Ledger v f).caller refl in
+    ap Told (e ∙ (s.accounts.accounts (unwrap_or (task_of tables.boot who) 0) l).counts) ∙ sym (accepted-answer tables.boot past who Ledger h)
+
+pub ledger-stands : (tables : TableValues) (past : List Entry) (who : ℕ) (c : Counts) → IsTrue (fits tables.boot who Ledger) → Told c ≡ answer tables.boot past who Ledger → Stands tables past → Stands tables (entry_of who Ledger (Told c) ∷ past)
+ledger-stands tables past who c f answered s = asked-stands tables past who Ledger (Told c) f answered refl s
+
+-- a refused call
+tick-accepted : (boot : System) (past : List Entry) (who : ℕ) → IsTrue (fits boot who Tick) → refusal boot past who Tick ≡ None
+unfolding refusal
+tick-accepted boot past who f = rw (of_kernel boot who Tick refl f) refl
+
+no_tick : (boot : System) (past : List Entry) (who : ℕ) (call : Call) (why : Refusal) → IsTrue (fits boot who call) → refusal boot past who call ≡ Some why → is_tick_call call ≡ false
+no_tick boot past who Tick why f h = absurd (cc (tick-accepted boot past who f, h))
+no_tick boot past who _ why f h = refl
+
+pub refused-is : (boot : System) (past : List Entry) (who : ℕ) (call : Call) (why : Refusal) → refusal boot past who call ≡ Some why → Refused why ≡ answer boot past who call
+unfolding answer
+refused-is boot past who call why h = sym (ap (λ r. option_map_or Refused r (accepted_answer boot past (unwrap_or (task_of boot who) 0) call)) h)
+
+pub refused-stands : (tables : TableValues) (past : List Entry) (who : ℕ) (call : Call) (why : Refusal) → IsTrue (fits tables.boot who call) → refusal tables.boot past who call ≡ Some why → Stands tables past → Stands tables (entry_of who call (Refused why) ∷ past)
+refused-stands tables past who call why f h s =
+    asked-stands tables past who call (Refused why) f (refused-is tables.boot past who call why h) (ap not (no_tick tables.boot past who call why f h)) s

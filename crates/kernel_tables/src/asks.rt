@@ -1,16 +1,18 @@
 //! The calls that only ask.
 
-ghost use Rattle.std.specs.Prelude.{◌≡◌, ◌∷◌, List, IsTrue};
+ghost use Rattle.std.specs.Prelude.{◌≡◌, ◌∷◌, List, IsTrue, Some, None};
 ghost use Rattle.kern_ids.specs.declared.entries.Entry.{Entry};
-ghost use Rattle.kern_ids.specs.declared.calls.Call.TheVariants.{Info as AskInfo, Purgeables as AskPurgeables};
-ghost use Rattle.kernel_model.specs.Answers.{answer};
+ghost use Rattle.kern_ids.specs.declared.calls.Call.TheVariants.{Info as AskInfo, Purgeables as AskPurgeables, GetState as AskState, Ledger as AskLedger};
+ghost use Rattle.kernel_model.specs.Answers.{answer, refusal};
 ghost use Rattle.kernel_model.specs.Histories.{fits};
 ghost use Rattle.kernel_tables.specs.Values.{values, entry_of};
 ghost use Rattle.kernel_tables.specs.Stands.{Stands};
 
 use crate::parts::Parts;
-use kern_ids::ids::ThreadId;
-use kern_ids::replies::{FrameCounts, Reply};
+use crate::refusals::caller;
+use kern_ids::calls::Call;
+use kern_ids::ids::{ObjId, ThreadId};
+use kern_ids::replies::{FrameCounts, Refusal, Reply};
 
 impl Parts {
     /// The free frames, the pages in each place, and how many entered and left the inactive queue.
@@ -41,5 +43,43 @@ impl Parts {
         ensures stands { Stands (values self.now) (entry_of who AskPurgeables result ∷ past) }
     {
         Reply::Tokens(self.objects.tokens.counts())
+    }
+
+    /// GetState, where it is not refused: the state of the object.
+    pub(crate) fn get_state(&self, who: ThreadId, o: ObjId) -> Reply
+        ghost past: { List Entry }
+        requires stands { Stands (values self.now) past }
+        requires fits { IsTrue (fits self.now.boot who (AskState o)) }
+        requires accepted { refusal self.now.boot past who (AskState o) ≡ None }
+        ensures reply { result ≡ answer self.now.boot past who (AskState o) }
+        ensures stands { Stands (values self.now) (entry_of who (AskState o) result ∷ past) }
+    {
+        self.boot.valid();
+        Reply::Is(self.state(o))
+    }
+
+    /// Ledger, where it is not refused: what the task is charged.
+    pub(crate) fn ledger(&self, who: ThreadId) -> Reply
+        ghost past: { List Entry }
+        requires stands { Stands (values self.now) past }
+        requires fits { IsTrue (fits self.now.boot who AskLedger) }
+        requires accepted { refusal self.now.boot past who AskLedger ≡ None }
+        ensures reply { result ≡ answer self.now.boot past who AskLedger }
+        ensures stands { Stands (values self.now) (entry_of who AskLedger result ∷ past) }
+    {
+        self.boot.valid();
+        Reply::Pages(self.tasks.ledgers.counts(caller(&self.boot, who)))
+    }
+
+    /// A refused call.
+    pub(crate) fn refused(&self, who: ThreadId, call: &Call, why: Refusal) -> Reply
+        ghost past: { List Entry }
+        requires stands { Stands (values self.now) past }
+        requires fits { IsTrue (fits self.now.boot who call.now) }
+        requires refused { refusal self.now.boot past who call.now ≡ Some why }
+        ensures reply { result ≡ answer self.now.boot past who call.now }
+        ensures stands { Stands (values self.now) (entry_of who call.now result ∷ past) }
+    {
+        Reply::Refused(why)
     }
 }

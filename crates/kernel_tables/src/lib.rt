@@ -5,10 +5,18 @@
 mod asks;
 mod beginnings;
 mod charging;
+mod decisions;
 pub mod law;
 mod mapping;
+mod page_charges;
 mod parts;
+mod placings;
 mod purges;
+mod range_access;
+mod refusals;
+mod scans;
 mod states;
 pub mod tables;
 mod tasks;
+mod ticks;
+mod verdicts;

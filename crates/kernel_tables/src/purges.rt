@@ -1,6 +1,6 @@
 //! The purges.
 
-ghost use Rattle.std.specs.Prelude.{◌≡◌, ◌+◌, ◌-◌, ◌<◌, ◌≤◌, ◌∷◌, ◌&&◌, ℕ, List, None, Some, not, true, length, option_map, slice_index_or, IfSome, IsTrue};
+ghost use Rattle.std.specs.Prelude.{◌≡◌, ◌-◌, ◌<◌, ◌≤◌, ◌∷◌, ◌&&◌, ℕ, List, None, Some, not, true, length, option_map, slice_index_or, IfSome, IsTrue};
 ghost use Rattle.kern_ids.specs.declared.calls.Call.{Call as ACall};
 ghost use Rattle.kern_ids.specs.declared.calls.Call.TheVariants.{Forced as AskForced, PurgeOne as AskPurgeOne, Scan as AskScan};
 ghost use Rattle.kern_ids.specs.declared.calls.Queue.{Queue as AQueue};

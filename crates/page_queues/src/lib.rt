@@ -224,6 +224,7 @@ impl PageQueues {
         ensures once { IsOnceEach self.now.queues }
         ensures frames { length (active self.now) + length (inactive self.now) ≤ self.now.frames }
         ensures marked { (key : ℕ) → is_marked self.now key ≡ true → has key (inactive self.now) ≡ true }
+        ensures marks { length self.now.marks ≡ 256 * length self.now.sizes }
     {
         self.queues.each_once();
     }

@@ -1,0 +1,121 @@
+-- A page that isn't Absent is one of a mapped object.
+use Rattle.std.proofs.Common.{◌≡◌, ℕ, List, [], ◌∷◌, length, Option, Some, None, option_map, nat_eq, refl, sym, ap, ◌∙◌, subst, Bool, true, false, not, ◌&&◌, ◌||◌, if◌then◌else◌, inl, inr}
+use Rattle.std.specs.Prelude.{IsTrue}
+use Rattle.std.specs.Option.{unwrap_or}
+use Rattle.std.proofs.lemmas.Bool.{cases_Bool, false≢true, true≢false}
+use Rattle.std.proofs.lemmas.Bool.Decides.{eqb_tells}
+use Rattle.kern_ids.specs.declared.entries.Entry.{Entry}
+use Rattle.kern_ids.specs.declared.ids.PageId.{PageId}
+use Rattle.kern_ids.specs.declared.calls.Call.{Call}
+use Rattle.kern_ids.specs.declared.calls.Call.TheVariants.{Read, Write, Scan}
+use Rattle.kern_ids.specs.declared.calls.State.{State}
+use Rattle.kern_ids.specs.declared.replies.Reply.{Reply}
+use Rattle.kern_ids.specs.declared.replies.Reply.TheVariants.{Moved, Refused}
+use Rattle.kern_ids.specs.declared.replies.Refusal.{Refusal}
+use Rattle.kernel_model.specs.declared.place.Place.{Place}
+use Rattle.kernel_model.specs.declared.place.Place.TheVariants.{Absent, Active, Inactive, Stored}
+use Rattle.kernel_model.specs.declared.place.Placed.{Placed}
+use Rattle.kernel_model.specs.System.{System}
+use Rattle.kernel_model.specs.Valid.{IsValidBoot}
+use Rattle.kernel_model.specs.Newest.{newest}
+use Rattle.kernel_model.specs.Events.{is_reply, task_of, reaches_page}
+use Rattle.kernel_model.specs.Mapping.{maps, mapped, unmaps}
+use Rattle.kernel_model.specs.State.{state, is_empty}
+use Rattle.kernel_model.specs.Contents.{empties}
+use Rattle.kernel_model.specs.Pages.{place, placed, place_given, touches, touches_from, is_out, move_of, same_page, is_active, is_inactive}
+use Rattle.kernel_model.specs.Answers.{answer}
+use Rattle.kernel_model.specs.Histories.{IsLegal, fits}
+use Rattle.kernel_model.specs.Laws.Frames.{is_in}
+use Rattle.kernel_model.specs.Laws.Kinds.{tells, is_scan_call}
+use Rattle.kernel_model.proofs.Laws.Answers.{refused, gets, answer-cases, answer-tells, accepted-no_object}
+use Rattle.kernel_model.proofs.Laws.Bounds.{scan-answer}
+use Rattle.kernel_model.proofs.Laws.Frames.{same_page-is}
+use Rattle.kernel_model.proofs.Laws.Held.{declared_task, maps_mapped, not_false}
+use Rattle.kernel_model.proofs.Laws.Scans.{scan-moved, scan_move-in}
+use Rattle.kernel_tables.specs.Values.{entry_of}
+use Rattle.kernel_tables.proofs.Accepted.{fitting-side}
+use Rattle.kernel_tables.proofs.PageMoves.{is_absent}
+
+and_false : (b : Bool) → (b && false) ≡ false
+and_false true = refl
+and_false false = refl
+
+or_false : (b : Bool) → (b || false) ≡ b
+or_false true = refl
+or_false false = refl
+
+both : (a b : Bool) → (a && b) ≡ true → (a ≡ true) × (b ≡ true)
+both true b h = (refl, h)
+both false b h = absurd (false≢true h)
+
+same_number : (a b : ℕ) → nat_eq a b ≡ true → a ≡ b
+same_number a b h = elim (eqb_tells a b) [ inl same ↦ same.1 | inr other ↦ absurd (false≢true (sym other.0 ∙ h)) ]
+
+refused_not : (reply : Reply) (why : Refusal) → is_reply reply ≡ true → reply ≡ Refused why → ⊥
+refused_not reply why h e = false≢true (sym (ap is_reply e) ∙ h)
+
+-- an entry that touches a page is an access of a task that maps its object
+touch_mapped : (boot : System) (before : List Entry) (who : ℕ) (call : Call) (reply : Reply) (p : PageId) → IsValidBoot boot → IsTrue (fits boot who call) → reply ≡ answer boot before who call → touches before (entry_of who call reply) p ≡ true → mapped boot before p.obj ≡ true
+touch_mapped boot before who (Write x off bytes) reply p v f h t =
+    let parts = both (is_reply reply) ((nat_eq x p.obj && reaches_page off (length bytes) p.page) || false) t in
+    let here : x ≡ p.obj = same_number x p.obj (both (nat_eq x p.obj) (reaches_page off (length bytes) p.page) (sym (or_false (nat_eq x p.obj && reaches_page off (length bytes) p.page)) ∙ parts.1)).0 in
+    elim (answer-cases boot before who (Write x off bytes)) [
+      | refused why r a ↦ absurd (refused_not reply why parts.0 (h ∙ a))
+      | gets r a ↦ subst (λ o. mapped boot before o ≡ true) here (maps_mapped boot before x (unwrap_or (task_of boot who) 0) (declared_task boot who v (fitting-side boot before who (Write x off bytes) f)) (not_false (maps boot before x (unwrap_or (task_of boot who) 0)) (accepted-no_object boot before who (Write x off bytes) r)))
+    ]
+touch_mapped boot before who (Read x off len) reply p v f h t =
+    let parts = both (is_reply reply) ((nat_eq x p.obj && reaches_page off len p.page) && not (is_empty (state before p.obj))) t in
+    let inner = both (nat_eq x p.obj && reaches_page off len p.page) (not (is_empty (state before p.obj))) parts.1 in
+    let here : x ≡ p.obj = same_number x p.obj (both (nat_eq x p.obj) (reaches_page off len p.page) inner.0).0 in
+    elim (answer-cases boot before who (Read x off len)) [
+      | refused why r a ↦ absurd (refused_not reply why parts.0 (h ∙ a))
+      | gets r a ↦ subst (λ o. mapped boot before o ≡ true) here (maps_mapped boot before x (unwrap_or (task_of boot who) 0) (declared_task boot who v (fitting-side boot before who (Read x off len) f)) (not_false (maps boot before x (unwrap_or (task_of boot who) 0)) (accepted-no_object boot before who (Read x off len) r)))
+    ]
+touch_mapped boot before who call reply p v f h t = absurd (false≢true (sym (and_false (is_reply reply)) ∙ t))
+
+in-present : (x : Place) → is_in x ≡ true → is_absent x ≡ false
+in-present Active h = refl
+in-present Inactive h = refl
+in-present Absent h = absurd (false≢true h)
+in-present Stored h = absurd (false≢true h)
+
+-- a page that an entry moves was in a frame
+move_present : (boot : System) (before : List Entry) (who : ℕ) (call : Call) (reply : Reply) (p : PageId) (x : Place) → reply ≡ answer boot before who call → move_of p reply ≡ Some x → is_absent (place boot before p) ≡ false
+move_present boot before who Scan (Moved move q) p x h m = elim (cases_Bool (same_page p q)) [
+  | inl same ↦ subst (λ r. is_absent (place boot before r) ≡ false) (same_page-is p q same) (in-present (place boot before q) (scan_move-in boot before move q (scan-moved boot before move q (scan-answer boot before who move q h)).chosen))
+  | inr off ↦ absurd (none_some (rw off at m))
+]
+  where
+    none_some : {A : Type 0} {y : A} → (None ≡ Some y) → ⊥
+    none_some e = cc
+move_present boot before who call (Moved move q) p x h m = absurd (false≢true (ap (λ r. tells r call) h ∙ answer-tells boot before who call))
+move_present boot before who call reply p x h m = absurd (cc)
+
+-- the page after the entry, by the page before
+held_step : (gone faults : Bool) (moved : Option Place) (n : ℕ) (was : Placed) (before after : Bool) → (gone ≡ false → before ≡ true → after ≡ true) → (faults ≡ true → before ≡ true) → ((x : Place) → moved ≡ Some x → before ≡ true) → (is_absent was.place ≡ false → before ≡ true) → is_absent (unwrap_or (option_map (λ x. record { place = x; number = n }) (if gone then Some Absent else if faults then Some Active else moved)) was).place ≡ false → after ≡ true
+held_step true faults moved n was before after stays f m w h = absurd (true≢false h)
+held_step false true moved n was before after stays f m w h = stays refl (f refl)
+held_step false false (Some x) n was before after stays f m w h = stays refl (m x refl)
+held_step false false None n was before after stays f m w h = stays refl (w h)
+
+or_left : (a b : Bool) → (a || b) ≡ false → b ≡ false
+or_left true b h = absurd (true≢false h)
+or_left false b h = h
+
+still_mapped : (boot : System) (e : Entry) (before : List Entry) (o : ℕ) → unmaps boot before e o ≡ false → mapped boot before o ≡ true → mapped boot (e ∷ before) o ≡ true
+unfolding unmaps
+still_mapped boot e before o u m = elim (cases_Bool (mapped boot (e ∷ before) o)) [
+  | inl stays ↦ stays
+  | inr gone ↦ absurd (true≢false (sym (rw (m, gone) refl) ∙ u))
+]
+
+pub held-mapped : (boot : System) (past : List Entry) (p : PageId) → IsValidBoot boot → IsLegal boot past → is_absent (place boot past p) ≡ false → mapped boot past p.obj ≡ true
+unfolding placed newest
+held-mapped boot [] p v l h = absurd (true≢false h)
+held-mapped boot (e ∷ before) p v l h =
+    held_step (empties p.obj before e || unmaps boot before e p.obj) (touches before e p && is_out (place boot before p)) (move_of p e.reply) (length before) (placed boot before p) (mapped boot before p.obj) (mapped boot (e ∷ before) p.obj)
+    (λ gone m. still_mapped boot e before p.obj (or_left (empties p.obj before e) (unmaps boot before e p.obj) gone) m)
+    (λ f. touch_mapped boot before e.who e.call e.reply p v l.0 l.1 (both (touches before e p) (is_out (place boot before p)) f).0)
+    (λ x m. held-mapped boot before p v l.2 (move_present boot before e.who e.call e.reply p x l.1 m))
+    (λ w. held-mapped boot before p v l.2 w)
+    h
