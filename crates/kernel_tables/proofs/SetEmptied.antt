@@ -1,8 +1,8 @@
 -- A SetState that is not refused and empties its object.
-use Rattle.std.proofs.Common.{◌≡◌, ℕ, ◌+◌, ◌-◌, ◌<◌, List, [], ◌∷◌, length, map, Option, Some, None, refl, sym, ap, ap₂, ◌∙◌, subst, Bool, true, false, not, ◌&&◌, if◌then◌else◌, inl, inr, nat_eq, arith}
-use Rattle.std.specs.Prelude.{IsTrue, IfSome, IsSome, is_some, is_none}
-use Rattle.std.specs.Option.{unwrap_or, option_map_or}
-use Rattle.std.proofs.lemmas.Bool.{cases_Bool, false≢true, true≢false}
+use Rattle.std.proofs.Common.{◌≡◌, ℕ, ◌+◌, ◌-◌, List, ◌∷◌, map, Option, Some, None, refl, sym, ap, ◌∙◌, subst, Bool, true, false, not, ◌&&◌, if◌then◌else◌, inl, inr, nat_eq}
+use Rattle.std.specs.Prelude.{IsTrue, IfSome, IsSome, is_none}
+use Rattle.std.specs.Option.{option_map_or}
+use Rattle.std.proofs.lemmas.Bool.{false≢true, true≢false}
 use Rattle.std.proofs.lemmas.Bool.Decides.{eqb_tells}
 use Rattle.kern_ids.specs.declared.entries.Entry.{Entry}
 use Rattle.kern_ids.specs.declared.calls.Call.TheVariants.{SetState}
@@ -13,11 +13,10 @@ use Rattle.kern_ids.specs.declared.calls.Wish.{Wish}
 use Rattle.kern_ids.specs.declared.calls.Wish.TheVariants.{Empty as ask_empty}
 use Rattle.kern_ids.specs.declared.replies.Reply.TheVariants.{Old}
 use Rattle.kern_ids.specs.StateWord.{decoded}
-use Rattle.kernel_model.specs.declared.place.Standing.{Standing}
 use Rattle.kernel_model.specs.System.{System}
 use Rattle.kernel_model.specs.Valid.{IsValidBoot}
 use Rattle.kernel_model.specs.State.{state, is_empty}
-use Rattle.kernel_model.specs.Contents.{empties, is_ask_empty}
+use Rattle.kernel_model.specs.Contents.{empties}
 use Rattle.kernel_model.specs.Pages.{left, inactive_pages}
 use Rattle.kernel_model.specs.Groups.{volatile, standing, is_volatile_state}
 use Rattle.kernel_model.specs.Deadlines.{Deadlines, deadlines, without_first, after_set}

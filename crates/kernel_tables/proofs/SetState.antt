@@ -1,9 +1,8 @@
 -- A SetState that is not refused and empties nothing: what the tables need, and what they are afterwards.
-use Rattle.std.proofs.Common.{◌≡◌, ℕ, ◌+◌, ◌-◌, ◌<◌, ◌≤◌, List, [], ◌∷◌, length, map, Option, Some, None, option_map, refl, sym, ap, ap₂, ◌∙◌, subst, Bool, true, false, not, ◌&&◌, if◌then◌else◌, inl, inr, nat_eq, nat_lt, arith}
-use Rattle.std.specs.Prelude.{IsTrue, is_some, IsNone, IsSome, count_by, bit_and, ◌/◌}
-use Rattle.std.specs.Option.{unwrap_or, option_map_or}
+use Rattle.std.proofs.Common.{◌≡◌, ℕ, ◌+◌, ◌-◌, ◌<◌, ◌≤◌, List, ◌∷◌, length, map, Option, Some, None, option_map, refl, sym, ap, ap₂, ◌∙◌, subst, Bool, true, false, not, ◌&&◌, if◌then◌else◌, inl, inr, nat_eq, arith}
+use Rattle.std.specs.Prelude.{IsTrue, is_some, IsNone, IsSome, bit_and, ◌/◌}
+use Rattle.std.specs.Option.{unwrap_or}
 use Rattle.std.proofs.lemmas.Bool.{cases_Bool, cases_lt, false≢true, true≢false}
-use Rattle.std.proofs.lemmas.List.{length-map}
 use Rattle.std.proofs.lemmas.List.FromFn.{length-range_with_len}
 use Rattle.std.proofs.lemmas.List.Sums.{count_by-le-length}
 use Rattle.kern_ids.specs.declared.entries.Entry.{Entry}
@@ -22,7 +21,7 @@ use Rattle.kernel_model.specs.Valid.{IsValidBoot}
 use Rattle.kernel_model.specs.Events.{task_of}
 use Rattle.kernel_model.specs.Mapping.{maps, mapped, owner}
 use Rattle.kernel_model.specs.State.{state}
-use Rattle.kernel_model.specs.Pages.{entered, left, inactive_pages}
+use Rattle.kernel_model.specs.Pages.{entered, left}
 use Rattle.kernel_model.specs.Groups.{volatile, standing, same_queue, objects_of, is_volatile_state}
 use Rattle.kernel_model.specs.Deadlines.{Deadlines, deadlines, of_queue}
 use Rattle.kernel_model.specs.Answers.{answer, refusal}
@@ -41,7 +40,7 @@ use Rattle.purge_pick.proofs.AsManyLemmas.{own-token, stands-somewhere}
 use Rattle.purge_pick.proofs.PickLemmas.{none_to}
 use Rattle.vm_object.specs.declared.answer.SetAnswer.{SetAnswer}
 use Rattle.vm_object.specs.Objects.{Object, object_at, changed, set_by, row, is_mapped, owner as owner_in}
-use Rattle.vm_object.specs.Rows.{deadlines_by, taken, added}
+use Rattle.vm_object.specs.Rows.{deadlines_by, taken}
 use Rattle.vm_object.proofs.RowLemmas.{row-deadlines}
 use Rattle.task_ledger.specs.declared.account.Account.{Account}
 use Rattle.task_ledger.specs.Accounts.{account_of, counts_plus, AreWithin}
@@ -56,7 +55,7 @@ use Rattle.kernel_tables.proofs.ObjectCalls.{declared}
 use Rattle.kernel_tables.proofs.Objects.{owner-stands, mapped-stands}
 use Rattle.kernel_tables.proofs.ObjectCharges.{burden-fits, owner-declared, charge-stands, table-charge, length-relieved}
 use Rattle.kernel_tables.proofs.ObjectEntries.{spared-bands}
-use Rattle.kernel_tables.proofs.SetEntry.{emptying, row-leaves, row-group, set-spares, set-mapped, set-owner, set-state_other, set-standing_other, set-stands_other, set-stands_here, set-stamp, set-group, set-entered, set-placed, set-inactive, set-left, set-pages, set-accounts, set-objects, setting}
+use Rattle.kernel_tables.proofs.SetEntry.{emptying, row-leaves, row-group, set-spares, set-mapped, set-owner, set-state_other, set-standing_other, set-stands_other, set-stands_here, set-stamp, set-group, set-placed, set-inactive, set-left, set-pages, set-accounts, set-objects, setting}
 use Rattle.kernel_tables.proofs.SetQueues.{left-group, groups-set, taken-follows, token-added_follows, token-room}
 use Rattle.kernel_tables.proofs.Unmapped.{caller-mapped}
 use Rattle.kernel_tables.proofs.Emptied.{inactive-entered}
