@@ -48,9 +48,10 @@ fn closing_words(count: usize, words: &mut Words<'_>) -> Result<(), Why>
     }
 }
 
-// A line behind the first, where so many entries stand before it: an entry, or None for the closing line.
+/// What a line behind the opening one is, where so many entries stand before it: an entry, or None for the
+/// closing line. The line is without its line feed.
 #[tactic(auto, unfolding(crate::specs::Histories::line_says))]
-fn take_line(count: usize, line: &[u8]) -> Result<Option<Entry>, Why>
+pub fn take_line(count: usize, line: &[u8]) -> Result<Option<Entry>, Why>
     ensures value { MatchResult result (λ said. line_says count line.now ≡ Ok said) (λ e. line_says count line.now ≡ Err e) }
     ensures room { IfOk result (λ said. IfSome said (λ _. count < 200000)) }
 {

@@ -12,4 +12,4 @@ mod sign;
 mod tests;
 
 pub use entry::{TextFault, read_entry};
-pub use history::read_history;
+pub use history::{read_history, take_line};

@@ -5,7 +5,6 @@ use Rattle.std.specs.Option.{option_map_or, unwrap_or}
 use Rattle.std.proofs.lemmas.Bool.{false≢true, and_parts}
 use Rattle.kern_ids.specs.declared.entries.Entry.{Entry}
 use Rattle.kern_ids.specs.declared.calls.Call.{Call}
-use Rattle.kern_ids.specs.declared.replies.Refusal.{Refusal}
 use Rattle.kern_ids.specs.declared.replies.Refusal.TheVariants.{Dead}
 use Rattle.kern_ids.specs.declared.replies.Reply.TheVariants.{Refused}
 use Rattle.kernel_model.specs.System.{System}

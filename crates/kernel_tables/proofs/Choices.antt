@@ -1,6 +1,6 @@
 -- Which object a purge takes is told by the tables: each queue has as many tokens as objects, and the ripe queue and the first of each
 -- group are those of the definitions.
-use Rattle.std.proofs.Common.{◌≡◌, ℕ, ◌+◌, ◌-◌, ◌/◌, ◌<◌, ◌≤◌, List, [], ◌∷◌, ◌++◌, length, map, Option, Some, None, option_map, slice_get, refl, sym, ap, ap₂, ◌∙◌, subst, Bool, true, false, not, ◌&&◌, nat_eq, nat_lt, if◌then◌else◌, inl, inr, arith, zero-le}
+use Rattle.std.proofs.Common.{◌≡◌, ℕ, ◌+◌, ◌-◌, ◌/◌, ◌<◌, ◌≤◌, List, [], ◌∷◌, ◌++◌, length, map, Option, Some, None, option_map, slice_get, refl, sym, ap, ap₂, ◌∙◌, subst, Bool, true, false, not, ◌&&◌, nat_eq, nat_lt, if◌then◌else◌, inl, inr, ◌⊎◌, arith, zero-le}
 use Rattle.std.specs.Prelude.{count_by, sum_by, flat_map, option_and_then, bit_and}
 use Rattle.std.specs.Option.{unwrap_or}
 use Rattle.std.specs.List.{range_with_len}
@@ -37,7 +37,7 @@ use Rattle.kernel_model.proofs.Laws.Queues.{first-is, distinct-range, has-range,
 use Rattle.kernel_model.proofs.Laws.Held.{tokens-hold}
 use Rattle.kernel_model.proofs.Laws.Purges.{IsChosen, first_some-has, chosen-volatile, chosen-queue}
 use Rattle.volatile_groups.specs.Grouped.{first_list, members, queue_at, queue_of, AreGroups}
-use Rattle.ripen_advance.specs.Queues.{QueueDues}
+use Rattle.ripen_advance.specs.Queues.{CanServe}
 use Rattle.purge_pick.specs.Picks.{HasTokens, HeadsGroup, head_of, picked, forced_of, objects_in, first_of as first_in, ripe_queue as ripe_in}
 use Rattle.purge_pick.specs.Follows.{Follows}
 use Rattle.purge_pick.proofs.FollowLemmas.{queue-follows}
@@ -166,6 +166,23 @@ all_below p h = elim (has-append_cases (groups_of Fifo ++ groups_of Lifo) (group
   ]
   | inr o ↦ one_below Obsolete (range_with_len 0 8) eight p o
 ]
+
+-- the object of a ripe purge may be purged for the ripe queue
+both_queue : (a b : Queue) (ns : List ℕ) (p : Queue × ℕ) → Has (flat_map (both_at a b) ns) p → (a ≡ p.0) ⊎ (b ≡ p.0)
+both_queue a b [] p h = absurd h
+both_queue a b (n ∷ ns) p h = elim (subst (λ (ps : List (Queue × ℕ)). Has ps p) (flat_map-cons (both_at a b) n ns) h) [
+  | inl e ↦ inl (ap (λ (x : Queue × ℕ). x.0) e)
+  | inr m ↦ elim m [
+    | inl e ↦ inr (ap (λ (x : Queue × ℕ). x.0) e)
+    | inr k ↦ both_queue a b ns p k
+  ]
+]
+
+pub serves-among : (r : Queue) (p : Queue × ℕ) → Has (places_for r) p → CanServe r p.0
+serves-among Obsolete p (inl e) = subst (λ (x : Queue × ℕ). CanServe Obsolete x.0) e tt
+serves-among Obsolete p (inr m) = absurd m
+serves-among Lifo p h = elim (both_queue Lifo Fifo (range_with_len 0 8) p h) [ inl e ↦ subst (CanServe Lifo) e tt | inr e ↦ subst (CanServe Lifo) e tt ]
+serves-among Fifo p h = elim (both_queue Fifo Lifo (range_with_len 0 8) p h) [ inl e ↦ subst (CanServe Fifo) e tt | inr e ↦ subst (CanServe Fifo) e tt ]
 
 -- the queue of a list
 queue_at-list : (q : Queue) (g : ℕ) → g < 8 → (first_list q + g < 24) × (queue_at (first_list q + g) ≡ q)

@@ -6,11 +6,10 @@ use Rattle.std.proofs.lemmas.Bool.Decides.{nat_tests}
 use Rattle.kern_ids.specs.declared.entries.Entry.{Entry}
 use Rattle.kern_ids.specs.declared.calls.Limit.{Limit}
 use Rattle.kern_ids.specs.declared.calls.Call.TheVariants.{SetLimits}
-use Rattle.kern_ids.specs.declared.replies.Reply.{Reply}
 use Rattle.kern_ids.specs.declared.replies.Reply.TheVariants.{Limited}
 use Rattle.kernel_model.specs.System.{System}
 use Rattle.kernel_model.specs.Answers.{answer, refusal}
-use Rattle.kernel_model.specs.Histories.{fits, declares_task, limit_ok}
+use Rattle.kernel_model.specs.Histories.{fits, limit_ok}
 use Rattle.kernel_model.specs.Bands.{limits, Limits, sets_active}
 use Rattle.kernel_model.specs.Laws.Kinds.{limits_entry}
 use Rattle.kernel_model.proofs.Laws.Kept.{wish-kept, active-kept, placing-kept, band-kept, ticks-kept, counts_for_ageing-kept}

@@ -21,7 +21,7 @@ use Rattle.kernel_model.specs.declared.place.Place.{Place}
 use Rattle.kernel_model.specs.declared.place.Place.TheVariants.{Absent, Active, Inactive, Stored}
 use Rattle.kernel_model.specs.System.{System}
 use Rattle.kernel_model.specs.Valid.{IsValidBoot, IsValidObject}
-use Rattle.kernel_model.specs.Mapping.{live, maps, owner, tasks_of}
+use Rattle.kernel_model.specs.Mapping.{live, maps, mapped, owner, tasks_of}
 use Rattle.kernel_model.specs.State.{state}
 use Rattle.kernel_model.specs.Groups.{is_volatile_state}
 use Rattle.kernel_model.specs.Pages.{place, stamp, pages_of, pages_in, is_active, is_inactive, is_stored}
@@ -32,7 +32,7 @@ use Rattle.kernel_model.specs.Laws.Frames.{bit, is_in, pages_at, share_of, has_s
 use Rattle.kernel_model.specs.Laws.Order.{Has, Keeps}
 use Rattle.kernel_model.specs.Laws.Queues.{KeepsPages}
 use Rattle.kernel_model.proofs.Laws.Counting.{count_by-both, count_by-weaker, count_by-and, sum_by-agree, sum_by-once, sum_by-none}
-use Rattle.kernel_model.proofs.Laws.Frames.{pages-by_objects, count_of-by_objects, count_of-object, share_of-kept, counts-res_non, counts-res_vol, counts-com_non, counts-com_vol, counts-footprint}
+use Rattle.kernel_model.proofs.Laws.Frames.{pages-by_objects, pages_at-absent, count_of-by_objects, count_of-object, share_of-kept, counts-res_non, counts-res_vol, counts-com_non, counts-com_vol, counts-footprint}
 use Rattle.kernel_model.proofs.Laws.Order.{keeps-filter, find-has}
 use Rattle.kernel_model.proofs.Laws.Queues.{range-has, has-range}
 use Rattle.page_queues.specs.Pages.{Pages, page_of, active as active_keys, inactive as inactive_keys, stored as stored_keys}
@@ -40,7 +40,10 @@ use Rattle.page_queues.specs.Tallies.{is_of, count_of as count_in}
 use Rattle.task_ledger.specs.declared.account.Account.{Account}
 use Rattle.task_ledger.specs.Accounts.{account_of, with_counts, counts_plus, counts_less, no_pages, AreAtMost, AreWithin, IsSummed}
 use Rattle.kernel_tables.specs.Charges.{charge, charge_of, framed_of, stored_of, is_owner, owed, relieved, burdened}
-use Rattle.kernel_tables.specs.Stands.{PagesStand, AccountsStand, IsAccount}
+use Rattle.vm_object.specs.Objects.{object_at, owner as owner_in}
+use Rattle.kernel_tables.specs.Values.{TableValues}
+use Rattle.kernel_tables.specs.Stands.{Stands, PagesStand, AccountsStand, IsAccount}
+use Rattle.kernel_tables.proofs.Objects.{owner-stands}
 use Rattle.kernel_tables.proofs.Counting.{keeps-count, pages-distinct, pair_lt-itself}
 
 -- the pages of an object in a place, by the list of the place
@@ -274,10 +277,10 @@ module _ (boot : System) (e : Entry) (before : List Entry) (o : ℕ) (l : o < le
 abbrev counting : Account → Counts → Account
 counting account c = record account { counts = c }
 
-less_none : (c : Counts) → counts_less c no_pages ≡ c
+pub less_none : (c : Counts) → counts_less c no_pages ≡ c
 less_none c = same_counts (counts_less c no_pages) c (omega arith) (omega arith) (omega arith) (omega arith) (omega arith)
 
-plus_none : (c : Counts) → counts_plus c no_pages ≡ c
+pub plus_none : (c : Counts) → counts_plus c no_pages ≡ c
 plus_none c = same_counts (counts_plus c no_pages) c (omega arith) (omega arith) (omega arith) (omega arith) (omega arith)
 
 charged_at : (f : Counts → Counts → Counts) → ((c : Counts) → f c no_pages ≡ c) → (u : ℕ) (c : Counts) (accounts : List Account) (t : ℕ) → t < length accounts → account_of (with_counts accounts u (f (account_of accounts u).counts c)) t ≡ counting (account_of accounts t) (f (account_of accounts t).counts (owed (Some u) c t))
@@ -324,6 +327,18 @@ relief-fits boot past accounts o t l s h =
     subst (λ (c : Counts). AreAtMost c (account_of accounts t).counts) (owed_whole (owner boot past o) (charge_of boot past o) t h)
     (subst (AreAtMost (owed (owner boot past o) (charge_of boot past o) t)) (sym (s.accounts t (owner-declared boot past o t h)).counts) (owed-counted boot past t o l))
 
+-- an object with no page in a place counts nothing
+charge_none : (s : State) → charge s 0 0 ≡ no_pages
+charge_none Nonvolatile = refl
+charge_none Volatile = refl
+charge_none Empty = refl
+
+pub charge-absent : (boot : System) (past : List Entry) (o : ℕ) → ((n : ℕ) → place boot past (record { obj = o; page = n }) ≡ Absent) → charge_of boot past o ≡ no_pages
+charge-absent boot past o a = ap₂ (charge (state past o)) (pages_at-absent boot past is_in o refl a) (pages_at-absent boot past is_stored o refl a) ∙ charge_none (state past o)
+
+nothing_owed : (o : Option ℕ) (c : Counts) (t : ℕ) → c ≡ no_pages → owed o c t ≡ no_pages
+nothing_owed o c t h = ap (λ x. owed o x t) h ∙ elim (is_owner o t) as (λ b. (if b then no_pages else no_pages) ≡ no_pages) [ true ↦ refl | false ↦ refl ]
+
 -- the accounts after an entry that changes one object
 module _ (boot : System) (e : Entry) (before : List Entry) (o : ℕ) (l : o < length boot.objects) (owners : (x : ℕ) → nat_eq o x ≡ false → owner boot (e ∷ before) x ≡ owner boot before x) (states : (x : ℕ) → nat_eq o x ≡ false → state (e ∷ before) x ≡ state before x) (places : (x : ℕ) → nat_eq o x ≡ false → (n : ℕ) → place boot (e ∷ before) (record { obj = x; page = n }) ≡ place boot before (record { obj = x; page = n })) (accounts : List Account) (s : AccountsStand boot before accounts) where
   abbrev off : List Account
@@ -364,3 +379,36 @@ module _ (boot : System) (e : Entry) (before : List Entry) (o : ℕ) (l : o < le
       internal = a.internal;
     });
   }
+
+-- where an object counts nothing before and after, the counts stay
+pub counts-uncharged : (boot : System) (e : Entry) (before : List Entry) (o : ℕ) → o < length boot.objects → ((x : ℕ) → nat_eq o x ≡ false → owner boot (e ∷ before) x ≡ owner boot before x) → ((x : ℕ) → nat_eq o x ≡ false → state (e ∷ before) x ≡ state before x) → ((p : PageId) → place boot (e ∷ before) p ≡ place boot before p) → ((n : ℕ) → place boot before (record { obj = o; page = n }) ≡ Absent) → (t : ℕ) → counts boot (e ∷ before) t ≡ counts boot before t
+counts-uncharged boot e before o l owners states places absent t =
+    let c = counts boot before t in
+    counts-object boot e before o l owners states (λ x h n. places (record { obj = x; page = n })) t
+    ∙ ap₂ (λ x y. counts_plus (counts_less c x) y) (nothing_owed (owner boot before o) (charge_of boot before o) t (charge-absent boot before o absent)) (nothing_owed (owner boot (e ∷ before) o) (charge_of boot (e ∷ before) o) t (charge-absent boot (e ∷ before) o (λ n. places (record { obj = o; page = n }) ∙ absent n)))
+    ∙ plus_none (counts_less c no_pages) ∙ less_none c
+
+-- the charge of a mapped object by the tables
+module _ (tables : TableValues) (past : List Entry) (s : Stands tables past) (o : ℕ) (l : o < length tables.boot.objects) where
+  pub table-charge : mapped tables.boot past o ≡ true → charge (object_at tables.objects o).state (framed_of tables.pages o) (stored_of tables.pages o) ≡ charge_of tables.boot past o
+  table-charge m = ap (λ x. charge x (framed_of tables.pages o) (stored_of tables.pages o)) (s.objects.states o l m) ∙ charge-stands tables.boot past tables.pages tables.entered o l s.pages
+
+  pub framed-few : IsValidBoot tables.boot → framed_of tables.pages o ≤ 256
+  framed-few v = subst (λ (n : ℕ). n ≤ 256) (sym (framed-stands tables.boot past tables.pages tables.entered o l s.pages)) (object-few tables.boot past is_in o v)
+
+  pub stored-few : IsValidBoot tables.boot → stored_of tables.pages o ≤ 256
+  stored-few v = subst (λ (n : ℕ). n ≤ 256) (sym (stored-stands tables.boot past tables.pages tables.entered o l s.pages)) (object-few tables.boot past is_stored o v)
+
+  pub object-sized : o < length tables.pages.sizes
+  object-sized = let n : length tables.pages.sizes ≡ length tables.boot.objects = ap length s.pages.page_sizes ∙ length-map tables.boot.objects (λ (x : ObjBoot). x.pages) in omega (arith, n, l)
+
+  pub object-kept : o < length tables.objects
+  object-kept = let n = s.objects.object_count in omega (arith, n, l)
+
+  -- what it counts can be taken off its owner's account
+  pub table-relief : IsValidBoot tables.boot → mapped tables.boot past o ≡ true → (from : Option ℕ) (c : Counts) → from ≡ owner_in tables.objects o → c ≡ charge (object_at tables.objects o).state (framed_of tables.pages o) (stored_of tables.pages o) → (u : ℕ) → from ≡ Some u → (u < length tables.accounts) × AreAtMost c (account_of tables.accounts u).counts
+  table-relief v m from c f h u is =
+      let by : owner tables.boot past o ≡ Some u = sym (owner-stands tables.boot past tables.objects v s.objects.mappers o l) ∙ sym f ∙ is in
+      let n = s.accounts.account_count in
+      let d = owner-declared tables.boot past o u by in
+      (omega (arith, n, d), subst (λ (x : Counts). AreAtMost x (account_of tables.accounts u).counts) (sym (h ∙ table-charge m)) (relief-fits tables.boot past tables.accounts o u l s.accounts by))

@@ -1,5 +1,5 @@
 -- Entries that change tasks alone: SetLimits, SetBand, Active and Tick. All that isn't said of tasks stays.
-use Rattle.std.proofs.Common.{◌≡◌, ℕ, ◌<◌, List, [], ◌∷◌, set, Option, None, refl, sym, ap, ◌∙◌, subst, Bool, true, false, ◌&&◌, ◌||◌, not, if◌then◌else◌, inl, inr, length}
+use Rattle.std.proofs.Common.{◌≡◌, ℕ, ◌<◌, List, [], ◌∷◌, set, None, refl, sym, ◌∙◌, subst, Bool, true, false, ◌&&◌, ◌||◌, not, if◌then◌else◌, inl, inr, length}
 use Rattle.std.proofs.lemmas.Bool.{cases_eq}
 use Rattle.std.proofs.lemmas.List.{get_or-set_same, get_or-set_other, length-set}
 use Rattle.kern_ids.specs.declared.entries.Entry.{Entry}
@@ -7,17 +7,16 @@ use Rattle.kern_ids.specs.declared.ids.PageId.{PageId}
 use Rattle.kern_ids.specs.declared.calls.Queue.{Queue}
 use Rattle.kernel_model.specs.System.{System}
 use Rattle.kernel_model.specs.Events.{accepted, is_map_call, is_attach_call, is_unmap_call, is_exit_call, is_purge, is_end, is_by, wish_call, write_covers, read_covers, purged_by, killed_by}
-use Rattle.kernel_model.specs.Mapping.{live, maps, said_maps, says_maps, mapped, unmaps, owner}
+use Rattle.kernel_model.specs.Mapping.{live, maps, says_maps, mapped, unmaps, owner}
 use Rattle.kernel_model.specs.State.{state, is_empty}
 use Rattle.kernel_model.specs.Contents.{empties}
-use Rattle.kernel_model.specs.Pages.{placed, touches_from, move_of, is_deactivation, entered, touched_since, written, left, inactive_pages, is_inactive}
-use Rattle.kernel_model.specs.Groups.{standing, stands_in, volatile}
-use Rattle.kernel_model.specs.Deadlines.{deadlines, set_by}
+use Rattle.kernel_model.specs.Pages.{placed, touches_from, move_of, is_deactivation, entered, touched_since, written, is_inactive}
+use Rattle.kernel_model.specs.Groups.{standing, stands_in}
+use Rattle.kernel_model.specs.Deadlines.{set_by}
 use Rattle.kernel_model.specs.Counted.{counts}
 use Rattle.kernel_model.specs.Histories.{IsLegal}
 use Rattle.kernel_model.proofs.Laws.Kept.{live-kept, maps-kept, mapped-kept, owner-kept, unmaps-kept, placed-kept, touched_since-kept, written-kept, entered-kept, standing-kept, volatile-kept, stands_in-kept, counted-kept, left-kept, counts-kept, deadlines-kept}
 use Rattle.kernel_model.proofs.Laws.State.{state-kept}
-use Rattle.priority_bands.specs.Banded.{placed as placed_in}
 use Rattle.task_ledger.specs.declared.account.Account.{Account}
 use Rattle.task_ledger.specs.Accounts.{account_of, no_account}
 use Rattle.idle_ageing.specs.Ageing.{Ageing}

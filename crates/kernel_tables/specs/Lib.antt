@@ -1,6 +1,10 @@
 pub mod Values
 pub mod Start
 pub mod Stands
-pub mod Moves
+pub mod Verdicts
 pub mod Asked
+pub mod Emptying
+pub mod Picked
 pub mod Charges
+pub mod Moves
+pub mod Settings

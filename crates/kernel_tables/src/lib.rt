@@ -4,12 +4,18 @@
 
 mod asks;
 mod beginnings;
-mod page_charges;
+mod charging;
 mod decisions;
 pub mod law;
+mod mapping;
+mod page_charges;
 mod parts;
+mod placings;
+mod purges;
 mod range_access;
 mod refusals;
 mod scans;
 pub mod tables;
 mod tasks;
+mod ticks;
+mod verdicts;

@@ -1,0 +1,13 @@
+//! A history's text, read in pieces of any size. What is kept between two pieces is small and has a fixed
+//! size, so the text is never held.
+#![tactic(auto)]
+
+mod expected;
+mod feed;
+mod held;
+mod kept_line;
+mod long_line;
+#[cfg(test)]
+mod tests;
+
+pub use feed::{Fed, HistoryFeed};

@@ -1,0 +1,5 @@
+pub mod Sames
+pub mod Faults
+pub mod Begun
+pub mod Standing
+pub mod FirstWrong

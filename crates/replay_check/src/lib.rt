@@ -1,0 +1,14 @@
+//! The verdict on a history of a scenario: its calls are made again, one after the other, and each reply is
+//! compared with the one that the kernel gives now.
+#![tactic(auto)]
+
+mod checks;
+pub mod law;
+mod performs;
+mod replays;
+mod same;
+mod verdicts;
+
+pub use checks::check;
+pub use replays::Replay;
+pub use verdicts::Verdict;

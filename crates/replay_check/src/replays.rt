@@ -1,0 +1,133 @@
+//! A history that is played again, an entry at a time.
+
+ghost use Rattle.std.specs.Prelude.{◌≡◌, ◌++◌, ◌∷◌, [], ◌^◌, ◌<◌, ℕ, List, length, true, IsTrue, IfOk, OnOk, OnErr};
+ghost use Rattle.std.specs.Option.{option_map_or};
+ghost use Rattle.kern_ids.specs.declared.entries.Entry.{Entry};
+ghost use Rattle.kernel_model.specs.Histories.{fits};
+ghost use Rattle.replay_check.specs.Replays.{first_unspent, Stands, StandsFor};
+ghost use Rattle.replay_check.specs.Verdicts.{is_call_at, verdict_of};
+
+use crate::performs::perform;
+use crate::same::{same_call, same_reply};
+use crate::verdicts::Verdict;
+use kern_ids::entries::{Entry, NoMemory};
+use kern_ids::ids::ThreadId;
+use kernel_core::kernel::Kernel;
+use kernel_model::scenario::Scenario;
+use std::alloc::Global;
+use std::marker::Model;
+
+/// What the entries so far have come to: the kernel behind them, and what was wrong at the first wrong place. From
+/// there on the calls are made no more.
+#[derive(Drop)]
+pub struct Replay {
+    kernel: Kernel,
+    /// How many calls each thread has made.
+    made: [usize; 32],
+    fault: Option<Verdict>,
+}
+
+impl Model for Replay {
+    ghost use Rattle.replay_check.specs.Replays.{ReplayView};
+
+    ghost Value = { ReplayView };
+
+    ghost view = { λ r. record { boot = r.kernel.boot; history = r.kernel.history; made = r.made; fault = r.fault } };
+}
+
+// Whether the thread of the entry is declared, and its call is call number k of its script.
+fn is_call_at(scenario: &Scenario, entry: &Entry, k: usize) -> bool
+    ensures value { result ≡ is_call_at scenario.now entry.now.who entry.now.call k }
+    ensures fits { result ≡ true → IsTrue (fits scenario.now.boot entry.now.who entry.now.call) }
+{
+    scenario.valid();
+    if scenario.scripts().len() <= entry.who.get() as usize {
+        return false;
+    }
+    match scenario.script_call(entry.who, k) {
+        Some(call) => same_call(&entry.call, call),
+        None => false,
+    }
+}
+
+// The least thread that has more calls in its script than it has made.
+fn first_unspent(scenario: &Scenario, made: &[usize; 32]) -> Option<ThreadId>
+    ensures { result ≡ first_unspent scenario.now made.now (length scenario.now.scripts) }
+{
+    scenario.valid();
+    let _few = scenario.boot().sides().len();
+    let threads = scenario.scripts().len();
+    for n in 0..threads {
+        let thread = match ThreadId::new(n as u32) {
+            Some(thread) => thread,
+            None => unreachable!(),
+        };
+        if made[n] < scenario.script_len(thread) {
+            return Some(thread);
+        }
+    }
+    None
+}
+
+// The verdict where no place is wrong, and each thread has made so many calls.
+fn end(scenario: &Scenario, made: &[usize; 32]) -> Verdict
+    ensures { result ≡ option_map_or Verdict.Missing (first_unspent scenario.now made.now (length scenario.now.scripts)) Verdict.Legal }
+{
+    match first_unspent(scenario, made) {
+        Some(thread) => Verdict::Missing { thread },
+        None => Verdict::Legal,
+    }
+}
+
+impl Replay {
+    /// A replay of a scenario, with no entries.
+    pub fn new(alloc: Global, scenario: &Scenario) -> Result<Replay, NoMemory>
+        ensures { IfOk result (StandsFor scenario.now []) }
+    {
+        Ok(Replay {
+            kernel: Kernel::boot(alloc, scenario.boot())?,
+            made: [0; 32],
+            fault: None,
+        })
+    }
+
+    /// Takes one entry more of the scenario's history. Without memory it has not taken it.
+    pub fn feed(&mut self, scenario: &Scenario, entry: &Entry) -> Result<(), NoMemory>
+        requires { Stands scenario.now self.old }
+        ensures fed { OnOk result ((es : List Entry) → StandsFor scenario.now es self.old → StandsFor scenario.now (es ++ entry.now ∷ []) self.new) }
+        ensures unchanged { OnErr result (self.new ≡ self.old) }
+    {
+        if self.fault.is_some() {
+            return Ok(());
+        }
+        let place = self.kernel.history().len() as u32;
+        let thread = entry.who.get() as usize;
+        if !is_call_at(scenario, entry, self.made[thread]) {
+            self.fault = Some(Verdict::WrongCall { place });
+            return Ok(());
+        }
+        let expected = perform(&mut self.kernel, scenario.boot(), entry.who, &entry.call)?;
+        if !same_reply(&entry.reply, &expected) {
+            self.fault = Some(Verdict::WrongReply { place, expected });
+            return Ok(());
+        }
+        self.made[thread] += 1;
+        Ok(())
+    }
+
+    /// The verdict on the entries that it was fed.
+    pub fn finish(self, scenario: &Scenario) -> Verdict
+        ensures { (es : List Entry) → StandsFor scenario.now es self → result ≡ verdict_of scenario.now es }
+    {
+        let Replay {
+            kernel: _,
+            made,
+            fault,
+        } = self;
+        scenario.valid();
+        match fault {
+            Some(fault) => fault,
+            None => end(scenario, &made),
+        }
+    }
+}
