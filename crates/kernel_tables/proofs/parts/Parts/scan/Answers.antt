@@ -1,4 +1,4 @@
-use Rattle.std.proofs.Common.{◌≡◌, refl, sym, ◌∙◌}
+use Rattle.std.proofs.Common.{refl, sym, ◌∙◌}
 use Rattle.kern_ids.specs.declared.calls.Call.TheVariants.{Scan}
 use Rattle.kern_ids.specs.declared.replies.Reply.TheVariants.{Enough, Idle}
 use Rattle.kernel_tables.specs.Values.{values}

@@ -1,4 +1,4 @@
-use Rattle.std.proofs.Common.{◌≡◌, None, Some, refl, sym, ap, ◌∙◌}
+use Rattle.std.proofs.Common.{refl, sym, ap, ◌∙◌}
 use Rattle.kern_ids.specs.declared.calls.Call.TheVariants.{Scan}
 use Rattle.kern_ids.specs.declared.replies.Reply.TheVariants.{Idle}
 use Rattle.kernel_tables.specs.Values.{values}

@@ -1,8 +1,7 @@
-use Rattle.std.proofs.Common.{◌≡◌, ℕ, List, None, Some, sym, ap, ◌∙◌}
+use Rattle.std.proofs.Common.{◌≡◌, ℕ, None, Some, ap, ◌∙◌}
 use Rattle.kern_ids.specs.declared.calls.Call.TheVariants.{Scan}
 use Rattle.kern_ids.specs.declared.replies.Reply.TheVariants.{Purged}
 use Rattle.kernel_model.proofs.Laws.Purges.{scan-purged}
-use Rattle.kernel_tables.specs.Values.{values}
 use Rattle.kernel_tables.proofs.Accepted.{accepted-answer}
 use Rattle.kernel_tables.proofs.parts.Parts.scan_ripe.Goals as goal
 
