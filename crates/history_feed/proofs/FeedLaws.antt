@@ -4,7 +4,7 @@ use Rattle.std.specs.Prelude.{codes, option_to_list}
 use Rattle.std.specs.Option.{IfSome}
 use Rattle.std.specs.Str.{bytes_eq}
 use Rattle.std.proofs.lemmas.Bool.{eqb-true}
-use Rattle.std.proofs.lemmas.List.{length-append, take_all}
+use Rattle.std.proofs.lemmas.List.{length-append}
 use Rattle.std.proofs.Math.Seq.{take-append_seam}
 use Rattle.kern_ids.specs.declared.faults.Why.{Why}
 use Rattle.kern_ids.specs.declared.faults.Why.TheVariants as why
@@ -16,14 +16,13 @@ use Rattle.history_reading.proofs.EntryLaws.{first_line}
 use Rattle.history_feed.specs.declared.expected.Expected.{Expected}
 use Rattle.history_feed.specs.declared.expected.Expected.TheVariants as next
 use Rattle.history_feed.specs.declared.expected.Said.{Said}
-use Rattle.history_feed.specs.declared.kept_line.KeptLine.{KeptLine}
 use Rattle.history_feed.specs.declared.feed.HistoryFeed.{HistoryFeed}
 use Rattle.history_feed.specs.Lines.{ended_of, rest_of, line_end}
 use Rattle.history_feed.specs.Kept.{kept_of}
 use Rattle.history_feed.specs.Left.{Fault, Place, said_entry, said_of, moved, over, one_byte, left_by, rest_behind, whole_of, whole_at}
 use Rattle.history_feed.specs.Feeds.{Keeps, KeepsLeft, IsEnded, StandsFor, Gives, IsFed, IsTextOf, entry_ended, given_by, taken_until, taken_of, count_of}
 use Rattle.history_feed.proofs.Splits.{first-part}
-use Rattle.history_feed.proofs.LeftLaws.{place, fault, begun, left-cut, more-rest, more-place, line-rest, line-place, left-fault}
+use Rattle.history_feed.proofs.LeftLaws.{place, fault, begun, more-rest, more-place, line-rest, line-place, left-fault}
 use Rattle.history_feed.proofs.SaysLaws.{says-entry}
 use Rattle.history_feed.proofs.Whole.{whole-left}
 
@@ -204,7 +203,7 @@ fed-line old new given text piece part others cut first sound h step =
     let i = step p at.2 in
     let left : left_by old.first (text ++ (part ++ 10 ∷ [])) ≡ moved p said = line-place old.first text part p none at.1 in
     let entry : entry_ended (left_by old.first text) rest (lines_of piece) ≡ given_by said =
-      ap (λ (l : Result Place Fault). entry_ended l rest (lines_of piece)) at.1 ∙ ap (entry_ended (place p) rest) cut ∙ entry_by rest part others p (lines_of others) refl in
+    ap (λ (l : Result Place Fault). entry_ended l rest (lines_of piece)) at.1 ∙ ap (entry_ended (place p) rest) cut ∙ entry_by rest part others p (lines_of others) refl in
     record {
       stands = stands-place new old.first (text ++ (part ++ 10 ∷ [])) (moved p said) [] first left (line-rest text part none) i.stands;
       entry = i.entry ∙ sym entry;

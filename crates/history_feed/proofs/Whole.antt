@@ -1,5 +1,5 @@
 -- What a text is as a whole is what it leaves where it stops.
-use Rattle.std.proofs.Common.{◌≡◌, ℕ, ◌+◌, Bool, true, false, cond, eqb, List, [], ◌∷◌, ◌++◌, length, Option, Some, None, Result, Ok, Err, refl, sym, ap, ◌∙◌, subst, append-nil}
+use Rattle.std.proofs.Common.{◌≡◌, ℕ, ◌+◌, Bool, true, false, cond, eqb, List, [], ◌∷◌, ◌++◌, length, Option, Some, None, Result, Ok, Err, refl, sym, ap, ◌∙◌, append-nil}
 use Rattle.std.specs.Prelude.{codes}
 use Rattle.std.specs.Str.{bytes_eq}
 use Rattle.kern_ids.specs.declared.faults.Why.{Why}
@@ -9,10 +9,9 @@ use Rattle.line_text.specs.Cut.{lines_of}
 use Rattle.line_text.proofs.CutLemmas.{some_part}
 use Rattle.history_reading.specs.Histories.{line_says, closed, entries_from, opened, history_of}
 use Rattle.history_reading.proofs.LineLemmas.{go, entries-next, entries-last, opened-next, opened-last}
-use Rattle.history_feed.specs.declared.expected.Expected.{Expected}
 use Rattle.history_feed.specs.declared.expected.Expected.TheVariants as next
 use Rattle.history_feed.specs.Lines.{ended_of, rest_of}
-use Rattle.history_feed.specs.Left.{Fault, Place, said_entry, said_of, moved, after, over, with_rest, left_by, whole_of}
+use Rattle.history_feed.specs.Left.{Fault, Place, said_entry, said_of, moved, over, with_rest, left_by, whole_of}
 use Rattle.history_feed.proofs.LeftLaws.{begun, left-cut, over-fault}
 
 -- from a place on, by lines of which the last isn't ended

@@ -7,7 +7,7 @@ use Rattle.history_text.specs.Entries.{entry_text}
 use Rattle.history_reading.specs.Entries.{HasText}
 use Rattle.history_feed.specs.declared.expected.Said.{Said}
 use Rattle.history_feed.specs.declared.feed.HistoryFeed.{HistoryFeed}
-use Rattle.history_feed.specs.Lines.{rest_of, line_end}
+use Rattle.history_feed.specs.Lines.{line_end}
 use Rattle.history_feed.specs.Kept.{kept_of}
 use Rattle.history_feed.specs.Left.{Fault, Place, said_of, moved, left_by, rest_behind}
 

@@ -1,6 +1,6 @@
 //! A reader of a history's text that is given in pieces.
 
-ghost use Rattle.std.specs.Prelude.{◌≡◌, ◌<◌, ◌≤◌, ◌+◌, ◌-◌, ◌++◌, ◌^◌, ℕ, List, [], length, take, Option, Some, None, Ok, Err, IfOk, IfSome, option_to_list};
+ghost use Rattle.std.specs.Prelude.{◌≡◌, ◌<◌, ◌≤◌, ◌+◌, ◌++◌, ◌^◌, ℕ, List, [], length, take, None, IfOk, IfSome, option_to_list};
 ghost use Rattle.line_text.specs.Cut.{lines_of};
 ghost use Rattle.history_reading.specs.Entries.{HasText};
 ghost use Rattle.history_reading.specs.Histories.{history_of};

@@ -1,4 +1,4 @@
-ghost use Rattle.std.specs.Prelude.{◌≡◌, ◌<◌, ◌≤◌, ◌^◌, ℕ, length};
+ghost use Rattle.std.specs.Prelude.{◌<◌, ◌≤◌, ◌^◌, length};
 
 use crate::HistoryFeed;
 use history_text::write_entry;
@@ -7,7 +7,8 @@ use std::alloc::Global;
 use std::process::Abort;
 use std::test::Fail;
 
-const LINES: &str = "0 map 0 = mapped\n0 write 0 0 616263 = wrote\n0 set 0 1 = old nonvolatile\n1 force = purged 0\n0 set 0 0 = old empty\n0 read 0 0 3 = bytes 000000\n";
+const LINES: &str =
+    "0 map 0 = mapped\n0 write 0 0 616263 = wrote\n0 set 0 1 = old nonvolatile\n1 force = purged 0\n0 set 0 0 = old empty\n0 read 0 0 3 = bytes 000000\n";
 
 // Bytes, so many times a byte, and bytes.
 fn long(alloc: Global, front: &[u8], byte: u8, count: usize, back: &[u8]) -> Result<Vec<u8>, Fail> {
@@ -40,7 +41,12 @@ fn piece_end(at: usize, cut: usize, size: usize, len: usize) -> usize
 }
 
 // Feeds a text whose first line is line 7: how it ends, and the texts of the entries that are given.
-fn fed(alloc: Global, text: &[u8], cut: usize, size: usize) -> Result<(Result<u32, (u32, Why)>, Vec<u8>), Fail>
+fn fed(
+    alloc: Global,
+    text: &[u8],
+    cut: usize,
+    size: usize,
+) -> Result<(Result<u32, (u32, Why)>, Vec<u8>), Fail>
     requires some { 0 < size }
     requires small { size < 2 ^ 31 }
 {
@@ -112,7 +118,11 @@ fn faults(rt: HostRuntime) -> Result<(), Fail> {
         ("history\n\n", 8, Why::Entry),
         ("history\ndone 0\n\n", 9, Why::AfterEnd),
         ("history\ndone 0\nx", 9, Why::AfterEnd),
-        ("history\ndone 0\n0 map 0 = mapped\ndone 1\n", 9, Why::AfterEnd),
+        (
+            "history\ndone 0\n0 map 0 = mapped\ndone 1\n",
+            9,
+            Why::AfterEnd,
+        ),
         ("history\n0 map 0 = mapped\ndone 0\n", 9, Why::Count),
         ("history\n0 map 0 = mapped\nx\ny\n", 9, Why::Entry),
         ("history\n0 map 0 = mapped", 8, Why::NoEnd),
@@ -140,7 +150,13 @@ fn long_lines(rt: HostRuntime) -> Result<(), Fail> {
         ("history\ndone ", b' ', 2000, "\n", Why::Word),
         ("history\ndone", b'9', 2000, "\n", Why::Entry),
         ("history\n", b'x', 2000, "\n", Why::Entry),
-        ("history\n0 read 0 0 1 = bytes 6", b'1', 2001, "\n", Why::Entry),
+        (
+            "history\n0 read 0 0 1 = bytes 6",
+            b'1',
+            2001,
+            "\n",
+            Why::Entry,
+        ),
         ("history\n", b'x', 2000, "", Why::NoEnd),
     ] {
         let text = long(alloc, front.as_bytes(), byte, count, back.as_bytes())?;
@@ -148,7 +164,13 @@ fn long_lines(rt: HostRuntime) -> Result<(), Fail> {
     }
     let opening = long(alloc, b"history", b'y', 2000, b"\n")?;
     is_bad(&rt, alloc, opening.as_slice(), 7, Why::Word)?;
-    let front = long(alloc, b"history\n31 write 255 4294967295 ", b'f', 512, b" = bytes ")?;
+    let front = long(
+        alloc,
+        b"history\n31 write 255 4294967295 ",
+        b'f',
+        512,
+        b" = bytes ",
+    )?;
     let text = long(alloc, front.as_slice(), b'0', 512, b"\ndone 1\n")?;
     for size in [1, 100, 5000] {
         let (end, entries) = fed(alloc, text.as_slice(), 0, size)?;

@@ -5,6 +5,13 @@ pub mod Counting
 pub mod Dues
 pub mod Asked
 pub mod AskLemmas
+pub mod PageKeys
+pub mod PageMoves
+pub mod PageCharges
+pub mod OnlyPages
+pub mod Recharges
+pub mod ScanMoves
+pub mod Touches
 pub mod Refused
 pub mod Objects
 pub mod ObjectCharges
@@ -30,13 +37,6 @@ pub mod Positions
 pub mod TickCall
 pub mod VerdictLemmas
 pub mod VerdictCall
-pub mod PageKeys
-pub mod PageMoves
-pub mod PageCharges
-pub mod OnlyPages
-pub mod Recharges
-pub mod ScanMoves
-pub mod Touches
 pub mod Accesses
 pub mod ReadWrite
 pub mod HeldMapped

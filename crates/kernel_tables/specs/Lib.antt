@@ -2,9 +2,9 @@ pub mod Values
 pub mod Start
 pub mod Stands
 pub mod Verdicts
+pub mod Moves
 pub mod Asked
 pub mod Emptying
 pub mod Picked
 pub mod Charges
-pub mod Moves
 pub mod Settings

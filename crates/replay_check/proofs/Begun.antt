@@ -163,11 +163,9 @@ some_if-none : {A : Type 0} (b : Bool) (x : A) → some_if b x ≡ None → b �
 some_if-none true x h = cc
 some_if-none false x h = refl
 
-spent-at : (s : Plan) (h : List Entry) → unspent s h ≡ None → (n : ℕ) → n < length s.scripts → length (script s n) ≤ length (of_thread n h)
+not-unspent : (s : Plan) (h : List Entry) → unspent s h ≡ None → (n : ℕ) → n < length s.scripts → some_if (has_more s n (length (of_thread n h))) n ≡ None
 unfolding unspent
-spent-at s h none n l =
-    let at = first_some-none (λ (k : ℕ). some_if (has_more s k (length (of_thread k h))) k) 0 (length s.scripts) none n (omega arith) (omega arith) in
-    ltb-false (length (of_thread n h)) (length (script s n)) (some_if-none (has_more s n (length (of_thread n h))) n at)
+not-unspent s h none n l = first_some-none (λ (k : ℕ). some_if (has_more s k (length (of_thread k h))) k) 0 (length s.scripts) none n (omega arith) (omega arith)
 
 nothing-behind : (calls whole : List Call) → AreFirst calls whole → length whole ≤ length calls → calls ≡ whole
 nothing-behind calls whole first l =
@@ -179,13 +177,17 @@ nothing-behind calls whole first l =
     empty_by [] e = refl
     empty_by (x ∷ xs) e = absurd (omega arith)
 
+-- a thread that has no more has made its script
+pub spent-thread : (s : Plan) (h : List Entry) (n : ℕ) → IsBegun s h → n < length s.scripts → some_if (has_more s n (length (of_thread n h))) n ≡ None → calls_of (of_thread n h) ≡ script s n
+spent-thread s h n begun l none =
+    let spent : length (script s n) ≤ length (of_thread n h) = ltb-false (length (of_thread n h)) (length (script s n)) (some_if-none (has_more s n (length (of_thread n h))) n none) in
+    let long : length (calls_of (of_thread n h)) ≡ length (of_thread n h) = length-map (of_thread n h) (λ (x : Entry). x.call) in
+    nothing-behind (calls_of (of_thread n h)) (script s n) (begun.scripts n l) (omega arith)
+
 whole-from : (s : Plan) (h : List Entry) → IsBegun s h → unspent s h ≡ None → IsWhole s h
 whole-from s h begun none = record {
   declared = begun.declared;
-  scripts = λ n l. nothing-behind (calls_of (of_thread n h)) (script s n) (begun.scripts n l)
-      (let spent : length (script s n) ≤ length (of_thread n h) = spent-at s h none n l in
-      let long : length (calls_of (of_thread n h)) ≡ length (of_thread n h) = length-map (of_thread n h) (λ (x : Entry). x.call) in
-      omega arith);
+  scripts = λ n l. spent-thread s h n begun l (not-unspent s h none n l);
 }
 
 begun-whole : (s : Plan) (h : List Entry) → IsWhole s h → IsBegun s h

@@ -3,20 +3,20 @@ use Rattle.std.proofs.Common.{◌≡◌, ℕ, zero, suc, ◌+◌, ◌<◌, ◌�
 use Rattle.std.specs.Prelude.{slice_get}
 use Rattle.std.specs.Option.{option_and_then, option_map_or, unwrap_or}
 use Rattle.std.specs.List.{range_with_len}
-use Rattle.std.proofs.lemmas.Bool.{cases_eq}
+use Rattle.std.proofs.lemmas.Bool.{cases_eq, ltb-true}
 use Rattle.std.proofs.lemmas.List.{length-take-le, take-append-drop}
 use Rattle.std.proofs.lemmas.Option.{same_Some}
 use Rattle.kern_ids.specs.declared.entries.Entry.{Entry}
 use Rattle.kern_ids.specs.declared.replies.Reply.{Reply}
-use Rattle.kernel_model.specs.Lists.{first_some}
-use Rattle.kernel_model.specs.Scenario.{Plan, IsValid}
+use Rattle.kernel_model.specs.Lists.{first_some, some_if}
+use Rattle.kernel_model.specs.Scenario.{Plan, IsValid, script}
 use Rattle.slow_kernel.specs.ObjectTables.{or_else}
 use Rattle.replay_check.specs.declared.verdicts.Verdict.{Verdict}
 use Rattle.replay_check.specs.declared.verdicts.Verdict.TheVariants.{Legal, WrongReply, WrongCall, Missing}
 use Rattle.replay_check.specs.Same.{same_reply}
-use Rattle.replay_check.specs.Verdicts.{is_next, reply_due, judged, entry_fault, fault_at, first_fault, unspent, verdict_of, IsFaultAt, IsFirstWrong}
+use Rattle.replay_check.specs.Verdicts.{of_thread, is_next, reply_due, judged, entry_fault, fault_at, first_fault, has_more, unspent, verdict_of, IsFaultAt, IsFirstUnspent, IsFirstWrong}
 use Rattle.replay_check.proofs.Faults.{first_some-cons, first_some-absent, fault_at-before}
-use Rattle.replay_check.proofs.Begun.{unfaulted}
+use Rattle.replay_check.proofs.Begun.{spent-thread, unfaulted}
 
 -- found at a number, and at none before it
 pub record FoundFirst {B : Type 0} (f : ℕ → Option B) (v : B) (a n : ℕ) : Type 0 where
@@ -97,3 +97,42 @@ first-wrong s h n v valid at is =
     let place : k ≡ n = sym long ∙ one_place n (length (take k h)) v at (at_place s (take k h) (slice_get h k) v found.found) in
     let right = unfaulted s (take k h) valid (none-before s h k (omega arith) (λ j l. found.before j (omega arith) l)) in
     subst (λ (m : ℕ). IsFirstWrong s h m v) place (record { within = within; wrong = found.found; legal = right.0; begun = right.1 })
+
+-- no fault is that a call is missing
+fault-missing : (s : Plan) (h : List Entry) (n : ℕ) → first_fault s h ≡ Some (Missing n) → ⊥
+fault-missing s h n e =
+    let found = first-found s h (Missing n) e in
+    at_place s (take found.at h) (slice_get h found.at) (Missing n) found.found
+
+missing-parts : (f : Option Verdict) (u : Option ℕ) (n : ℕ) → (f ≡ Some (Missing n) → ⊥) → unwrap_or f (option_map_or Missing u Legal) ≡ Missing n → (f ≡ None) × (u ≡ Some n)
+missing-parts None None n never h = cc
+missing-parts None (Some m) n never h = (refl, cc)
+missing-parts (Some v) u n never h = absurd (never (ap Some h))
+
+parts-missing : (s : Plan) (h : List Entry) (n : ℕ) → verdict_of s h ≡ Missing n → (first_fault s h ≡ None) × (unspent s h ≡ Some n)
+unfolding verdict_of
+parts-missing s h n e = missing-parts (first_fault s h) (unspent s h) n (fault-missing s h n) e
+
+unspent-found : (s : Plan) (h : List Entry) (n : ℕ) → unspent s h ≡ Some n → FoundFirst (λ k. some_if (has_more s k (length (of_thread k h))) k) n 0 (length s.scripts)
+unfolding unspent
+unspent-found s h n e = first_some-first (λ (k : ℕ). some_if (has_more s k (length (of_thread k h))) k) n 0 (length s.scripts) e
+
+some_if-some : (b : Bool) (k n : ℕ) → some_if b k ≡ Some n → (b ≡ true) × (k ≡ n)
+some_if-some true k n h = (refl, same_Some k n h)
+some_if-some false k n h = cc
+
+pub first-unspent : (s : Plan) (h : List Entry) (n : ℕ) → IsValid s → verdict_of s h ≡ Missing n → IsFirstUnspent s h n
+first-unspent s h n valid is =
+    let parts = parts-missing s h n is in
+    let right = unfaulted s h valid parts.0 in
+    let found = unspent-found s h n parts.1 in
+    let k : ℕ = found.at in
+    let high : k < 0 + length s.scripts = found.high in
+    let here = some_if-some (has_more s k (length (of_thread k h))) k n found.found in
+    subst (IsFirstUnspent s h) here.1 (record {
+      legal = right.0;
+      begun = right.1;
+      declared = omega arith;
+      more = ltb-true (length (of_thread k h)) (length (script s k)) here.0;
+      spent = λ m l. spent-thread s h m right.1 (omega arith) (found.before m (omega arith) l);
+    })

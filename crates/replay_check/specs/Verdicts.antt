@@ -89,3 +89,11 @@ pub record IsFirstWrong (s : Plan) (h : List Entry) (n : ℕ) (v : Verdict) : Ty
   pub wrong : fault_at s h n ≡ Some v
   pub legal : histories.Legal s.boot (take n h)
   pub begun : IsBegun s (take n h)
+
+-- no place is wrong, the script of thread n isn't spent, and those of the threads before it are
+pub record IsFirstUnspent (s : Plan) (h : List Entry) (n : ℕ) : Type 0 where
+  pub legal : histories.Legal s.boot h
+  pub begun : IsBegun s h
+  pub declared : n < length s.scripts
+  pub more : length (of_thread n h) < length (script s n)
+  pub spent : (m : ℕ) → m < n → calls_of (of_thread m h) ≡ script s m

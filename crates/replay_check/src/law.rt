@@ -7,9 +7,9 @@ ghost use Rattle.kern_ids.specs.declared.replies.Reply.{Reply};
 ghost use Rattle.kernel_model.specs.Histories as histories;
 ghost use Rattle.kernel_model.specs.Scenario.{IsValid, Plan};
 ghost use Rattle.replay_check.specs.Same.{same_call, same_reply};
-ghost use Rattle.replay_check.specs.Verdicts.{IsFaultAt, IsFirstWrong, IsWhole, verdict_of};
+ghost use Rattle.replay_check.specs.Verdicts.{IsFaultAt, IsFirstUnspent, IsFirstWrong, IsWhole, verdict_of};
 ghost use Rattle.replay_check.specs.declared.verdicts.Verdict.{Verdict};
-ghost use Rattle.replay_check.specs.declared.verdicts.Verdict.TheVariants.{Legal};
+ghost use Rattle.replay_check.specs.declared.verdicts.Verdict.TheVariants.{Legal, Missing};
 
 /// The tests of equality say true exactly of equal calls, and of equal replies.
 pub fn same_are_equal()
@@ -27,4 +27,9 @@ pub fn legal_is_whole()
 /// Where the verdict names a place, it is the first wrong one, and what is before it is right.
 pub fn place_is_first()
     ensures { (s : Plan) (h : List Entry) (n : ℕ) (v : Verdict) → IsValid s → IsFaultAt n v → verdict_of s h ≡ v → IsFirstWrong s h n v }
+{}
+
+/// Where the verdict names a thread, no place is wrong, and it is the first thread whose script isn't spent.
+pub fn thread_is_first()
+    ensures { (s : Plan) (h : List Entry) (n : ℕ) → IsValid s → verdict_of s h ≡ Missing n → IsFirstUnspent s h n }
 {}

@@ -3,4 +3,6 @@
 
 pub mod schedule;
 #[cfg(test)]
+mod own_threads;
+#[cfg(test)]
 mod tests;

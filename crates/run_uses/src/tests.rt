@@ -22,7 +22,7 @@ use std::sync::Wait;
 use std::test::Fail;
 use std::thread::Threads;
 
-const TWO_MAPS: &[u8] =
+pub const TWO_MAPS: &[u8] =
     b"jetlab 1\nsystem frames 8 target 8 inactive 3 store 4 critical 0 delay 3\ntask 0 band 5 active 65536 soft inactive 65536 soft\ntask 1 band 5 active 65536 soft inactive 65536 soft\nobject 0 task 0 pages 1\nobject 1 task 1 pages 1\nthread 0 task 0\nmap 0\nthread 1 task 1\nmap 1\norder\nend\n";
 
 const PURGE: &[u8] =
@@ -31,7 +31,7 @@ const PURGE: &[u8] =
 const KILL: &[u8] =
     b"jetlab 1\nsystem frames 8 target 8 inactive 3 store 4 critical 9 delay 3\ntask 0 band 5 active 65536 soft inactive 65536 soft\nobject 0 task 0 pages 1\nthread 0 task 0\nmap 0\nwrite 0 0 61\nthread 1 kernel\njetsam\norder\nend\n";
 
-fn moment(thread: u32, point: Point, nth: u64) -> Moment {
+pub fn moment(thread: u32, point: Point, nth: u64) -> Moment {
     Moment { thread, point, nth }
 }
 
@@ -140,7 +140,7 @@ fn kill_before_the_turn(rt: HostRuntime) -> Result<(), Fail> {
 }
 
 // A scenario that is read without a fault.
-fn scenario<R: Abort>(rt: &R, alloc: Global, text: &[u8]) -> Result<Scenario, NoMemory> {
+pub fn scenario<R: Abort>(rt: &R, alloc: Global, text: &[u8]) -> Result<Scenario, NoMemory> {
     assert!(rt; text.len() < 1 << 31);
     match read_scenario(alloc, text) {
         Ok(s) => Ok(s),

@@ -1,6 +1,4 @@
-use Rattle.std.proofs.Common.{◌≡◌, ℕ, length, take, Option, Some, None}
-use Rattle.history_feed.specs.Left.{Fault}
-use Rattle.history_feed.specs.Feeds.{IsFed}
+use Rattle.std.proofs.Common.{length, take}
 use Rattle.history_feed.proofs.FeedLaws.{none_is, fed-fault}
 use Rattle.history_feed.proofs.feed.HistoryFeed.feed.Goals as goal
 

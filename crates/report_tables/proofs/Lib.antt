@@ -1,0 +1,6 @@
+pub mod PageCounts
+pub mod FactsFrom
+pub mod LineLaws
+pub mod JsonLaws
+pub mod Emptied
+pub mod Explained

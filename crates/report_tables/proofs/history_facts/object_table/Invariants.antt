@@ -1,0 +1,7 @@
+use Rattle.std.proofs.Common.{◌≡◌, reverse, map}
+use Rattle.std.specs.List.{range_with_len}
+use Rattle.report_tables.specs.Facts.{object_facts}
+use Rattle.report_tables.proofs.history_facts.object_table.Given as goal
+
+abbrev pub invariant-loop-k : goal.invariant-loop-k
+invariant-loop-k l = l.table.items ≡ map (object_facts l.boot (reverse l.entries)) (range_with_len 0 l.k)

@@ -1,0 +1,5 @@
+pub mod Summary
+pub mod Facts
+pub mod Table
+pub mod Json
+pub mod Reasons
