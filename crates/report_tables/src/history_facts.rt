@@ -1,6 +1,6 @@
 //! What stands after a history, found by looking back through it.
 
-ghost use Rattle.std.specs.Prelude.{◌≡◌, ◌≤◌, reverse, map, IfOk, length};
+ghost use Rattle.std.specs.Prelude.{◌≡◌, reverse, map, IfOk};
 ghost use Rattle.kernel_model.specs.Groups.{objects_of};
 ghost use Rattle.kernel_model.specs.Mapping.{tasks_of};
 ghost use Rattle.kernel_model.specs.Pages as page_spec;
