@@ -259,7 +259,8 @@ fn token_counts(alloc: Global, boot: &Boot, entries: &[Entry]) -> Result<TokenCo
 }
 
 impl Facts {
-    /// What stands after these entries. It looks through them once for each task and each object.
+    /// What stands after these entries. It looks back through them several times for each task and each
+    /// object.
     pub fn of_history(alloc: Global, boot: &Boot, entries: &[Entry]) -> Result<Facts, NoMemory>
         ensures { IfOk result (λ f. f ≡ spec.facts_of boot.now (reverse entries.now)) }
     {
