@@ -1,0 +1,1 @@
+-- How much of an input a scenario takes.
