@@ -17,7 +17,12 @@ pub fn read_input(alloc: Global, bytes: &[u8]) -> Result<(Scenario, EntryList), 
     ensures exact { InputGives result (input_of bytes.now) }
     ensures few { IfOk result (λ r. length r.1.list ≤ 200000) }
 {
-    let (scenario, taken, lines) = read_front(alloc, bytes)?;
-    let history = read_history(alloc, &bytes[taken..], lines + 1)?;
-    Ok((scenario, history))
+    let (scenario, taken, lines) = match read_front(alloc, bytes) {
+        Ok(front) => front,
+        Err(fault) => return Err(fault),
+    };
+    match read_history(alloc, &bytes[taken..], lines + 1) {
+        Ok(history) => Ok((scenario, history)),
+        Err(fault) => Err(fault),
+    }
 }
