@@ -1,0 +1,11 @@
+//! Scenarios that are made of a seed: a fixed head, and turns whose threads and calls are drawn.
+#![tactic(auto)]
+
+mod calls;
+mod draws;
+mod head;
+mod made;
+#[cfg(test)]
+mod tests;
+
+pub use made::make_scenario;
