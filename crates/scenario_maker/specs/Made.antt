@@ -1,5 +1,5 @@
 -- The scenario that is made of a seed and a number of turns.
-use Rattle.std.specs.Prelude.{ℕ, zero, suc, ◌+◌, ◌*◌, [], ◌∷◌, ◌++◌, Option, Some, None, nat_eq, nat_le, if◌then◌else◌, slice_set}
+use Rattle.std.specs.Prelude.{ℕ, zero, suc, ◌+◌, ◌*◌, List, [], ◌∷◌, ◌++◌, Option, Some, None, nat_eq, nat_le, if◌then◌else◌, slice_set}
 use Rattle.std.specs.Int.{w32, to_be_bytes}
 use Rattle.kern_ids.specs.declared.calls.Call.{Call}
 use Rattle.kern_ids.specs.declared.calls.Call.TheVariants.{Map, Write, Read, SetState, GetState, PurgeOne, Forced, Scan, Tick, Jetsam}
@@ -63,3 +63,8 @@ turns (suc n) = do
 -- the scenario of a seed and a number of turns
 unfoldable pub made_plan : ℕ → ℕ → Plan
 made_plan seed n = (turns n seed).0
+
+-- the turns 0 to n - 1 as they are drawn, each a thread and its call
+unfoldable pub drawn_turns : ℕ → ℕ → List (ℕ × Call)
+drawn_turns zero x = []
+drawn_turns (suc n) x = drawn_turns n x ++ (turn n (turns n x).1).0 ∷ []

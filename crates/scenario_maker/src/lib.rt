@@ -4,6 +4,7 @@
 mod calls;
 mod draws;
 mod head;
+pub mod law;
 mod made;
 #[cfg(test)]
 mod tests;
