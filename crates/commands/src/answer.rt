@@ -13,6 +13,7 @@ use history_text::HistoryPieces;
 use kern_ids::entries::EntryList;
 use kern_ids::faults::Why;
 use kernel_model::scenario::Scenario;
+use report_tables::summary;
 use scenario_text::ScenarioPieces;
 
 /// What the program answers.
@@ -22,6 +23,8 @@ pub enum Answer {
     Run(Scenario, EntryList),
     /// A scenario.
     Rewritten(Scenario),
+    /// The counts of a history.
+    Counted(EntryList),
     /// The words are those of no command.
     BadWords,
     /// A line of the input is wrong.
@@ -38,7 +41,7 @@ impl Answer {
         ensures { result ≡ (due_of self.now).0 }
     {
         match self {
-            Answer::Run(..) | Answer::Rewritten(_) => 0,
+            Answer::Run(..) | Answer::Rewritten(_) | Answer::Counted(_) => 0,
             Answer::BadWords => 2,
             Answer::BadLine(..) => 3,
             Answer::ReadFault => 4,
@@ -64,6 +67,7 @@ impl Answer {
             Answer::Rewritten(scenario) => {
                 write_pieces(sink, ScenarioPieces::new(scenario), buffer)
             }
+            Answer::Counted(history) => write_whole(sink, summary(history).as_slice()),
             Answer::BadWords => write_whole(sink, bad_words().as_slice()),
             Answer::BadLine(number, why) => write_whole(sink, bad_line(*number, *why).as_slice()),
             Answer::ReadFault => write_whole(sink, read_fault().as_slice()),

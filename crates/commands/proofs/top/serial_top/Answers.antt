@@ -1,5 +1,6 @@
 use Rattle.std.proofs.Common.{refl, arith}
-use Rattle.commands.proofs.Due.{due_of-listed}
+use Rattle.commands.specs.Answers.{due_of}
+use Rattle.commands.proofs.Due.{due_of-listed, written_outcome}
 use Rattle.commands.proofs.top.serial_top.Goals as goal
 
 pub returns-in-Err-new-clause-statuses : goal.returns-in-Err-new-clause-statuses
@@ -10,3 +11,7 @@ returns-in-Ok-write-clause-statuses g c = due_of-listed c.in-Ok.answer c.status.
 
 pub returns-clause-statuses : goal.returns-clause-statuses
 returns-clause-statuses g c = (4, omega arith, refl)
+
+pub returns-in-Ok-write-clause-outcome : goal.returns-in-Ok-write-clause-outcome
+returns-in-Ok-write-clause-outcome g c = λ read wrote memory.
+    written_outcome c.args.words.now _ _ _ _ (due_of c.in-Ok.answer) _ _ c.status.result c.in-Ok.ensures.due c.status.ensures c.in-Ok-write.ensures.ok read
