@@ -5,7 +5,9 @@ use Rattle.edge.specs.Ends.{Rose, AppendsFront}
 use Rattle.kernel_model.specs.Scenario.{Plan}
 use Rattle.line_text.specs.Cut.{Word}
 use Rattle.scenario_text.specs.Grammar.{scenario_of}
+use Rattle.history_reports.specs.Reports.{report_of}
 use Rattle.commands.specs.declared.command.Reading.{Reading}
+use Rattle.commands.specs.declared.command.Reading.TheVariants.{Rewrite, Judge}
 use Rattle.commands.specs.declared.command.Command.{Command}
 use Rattle.commands.specs.declared.command.Command.TheVariants.{Read, Make}
 use Rattle.commands.specs.Commands.{command_of, asks_reading, limit_of}
@@ -48,13 +50,15 @@ WritesOutcome words old new held holds status = (text : List ℕ) × IsOutcome w
 abbrev pub WritesFront : List Word → Option (List ℕ) → Option (List ℕ) → ℕ → ℕ → Option (List ℕ) → Option (List ℕ) → Type 0
 WritesFront words old new before now held holds = (due : Due) × IsDue words old new before now due × AppendsFront held holds due.1
 
--- what is due of a scenario that is read: the outcome of the bytes that were taken, or the line on a failed read
+-- what is due where something is read: the outcome of the bytes that were taken, or the line on a failed read
 abbrev pub IsReadDue : Reading → Option (List ℕ) → Option (List ℕ) → ℕ → ℕ → Due → Type 0
 IsReadDue r old new before now due = ((x : List ℕ) × IsInput (limit_of r) old new x × (due ≡ outcome_of r x)) ⊎ (Rose before now × (due ≡ (4, read_fault)))
 
--- where a command reads, the input that is left is a scenario within its limit
+-- where a command reads, the input that is left is good and within its limit: a scenario; or a scenario with a history that is legal and
+-- whole, and has the entry that is asked for
 abbrev pub IsGoodInput : Command → Option (List ℕ) → Type 0
-IsGoodInput (Read r) left = (x : List ℕ) × (s : Plan) × (left ≡ Some x) × (length x ≤ limit_of r) × (scenario_of x ≡ Ok s)
+IsGoodInput (Read (Rewrite r)) left = (x : List ℕ) × (s : Plan) × (left ≡ Some x) × (length x ≤ limit_of (Rewrite r)) × (scenario_of x ≡ Ok s)
+IsGoodInput (Read (Judge j)) left = (x : List ℕ) × (text : List ℕ) × (left ≡ Some x) × (length x ≤ limit_of (Judge j)) × (report_of j x ≡ Ok (0, text))
 IsGoodInput (Make making seed n) left = ⊤
 
 -- the words are those of a command, and its input is good

@@ -1,18 +1,28 @@
 //! Which command the words ask for.
 
 ghost use Rattle.std.specs.Prelude.{◌≡◌, ◌<◌, ◌≤◌, ◌^◌, IfSome};
-ghost use Rattle.commands.specs.Commands.{command_of, limit_of, made_by, making_named, named, number_to, IsInRange};
+ghost use Rattle.commands.specs.Commands.{asked_why, command_of, limit_of, made_by, making_named, named, number_to, IsInRange};
 
 use edge::words::Words;
+use history_reports::Judging;
 use line_text::{Words as LineWords, is_plain, is_word};
 
 /// What is done with a scenario that is read.
 #[derive(Clone, Copy, PartialEq, Eq, Debug)]
-pub enum Reading {
+pub enum Rewriting {
     /// It is run on one thread, and written with its history.
     Serial,
     /// It is written in the second form.
     Migrate,
+}
+
+/// What is read, and what is done with it.
+#[derive(Clone, Copy, PartialEq, Eq, Debug)]
+pub enum Reading {
+    /// A scenario.
+    Rewrite(Rewriting),
+    /// A scenario with a history.
+    Judge(Judging),
 }
 
 impl Reading {
@@ -23,7 +33,8 @@ impl Reading {
         ensures small { result < 2 ^ 30 }
     {
         match self {
-            Reading::Serial | Reading::Migrate => 67_108_864,
+            Reading::Rewrite(_) => 67_108_864,
+            Reading::Judge(_) => 268_435_456,
         }
     }
 }
@@ -40,7 +51,7 @@ pub enum Making {
 /// What the program is asked to do.
 #[derive(Clone, Copy, PartialEq, Eq, Debug)]
 pub enum Command {
-    /// To read a scenario.
+    /// To read something.
     Read(Reading),
     /// To make the scenario of a seed, which is below 2 ^ 31, and of n turns, at most 200,000. It reads nothing.
     Make { making: Making, seed: u32, n: u32 },
@@ -51,9 +62,15 @@ fn named(word: &[u8]) -> Option<Reading>
     ensures { result ≡ named word.now }
 {
     if is_word(word, b"serial") {
-        Some(Reading::Serial)
+        Some(Reading::Rewrite(Rewriting::Serial))
     } else if is_word(word, b"migrate") {
-        Some(Reading::Migrate)
+        Some(Reading::Rewrite(Rewriting::Migrate))
+    } else if is_word(word, b"check") {
+        Some(Reading::Judge(Judging::Check))
+    } else if is_word(word, b"table") {
+        Some(Reading::Judge(Judging::Table))
+    } else if is_word(word, b"json") {
+        Some(Reading::Judge(Judging::Json))
     } else {
         None
     }
@@ -98,6 +115,18 @@ fn made_by(word: &[u8], seed: &[u8], n: &[u8]) -> Option<Command>
     Some(Command::Make { making, seed, n })
 }
 
+// The command of a word and the number of an entry.
+fn asked_why(word: &[u8], n: &[u8]) -> Option<Command>
+    ensures value { result ≡ asked_why word.now n.now }
+    ensures range { IfSome result IsInRange }
+{
+    if !is_word(word, b"why") {
+        return None;
+    }
+    let n = number_to(n, u32::MAX)?;
+    Some(Command::Read(Reading::Judge(Judging::Why(n))))
+}
+
 /// The command, if the words are those of one.
 pub fn command_of(words: &Words) -> Option<Command>
     ensures value { result ≡ command_of words.now }
@@ -105,6 +134,7 @@ pub fn command_of(words: &Words) -> Option<Command>
 {
     match words.len() {
         1 => Some(Command::Read(named(words.get(0)?)?)),
+        2 => asked_why(words.get(0)?, words.get(1)?),
         3 => made_by(words.get(0)?, words.get(1)?, words.get(2)?),
         _ => None,
     }

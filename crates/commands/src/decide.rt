@@ -4,15 +4,17 @@ ghost use Rattle.std.specs.Prelude.{◌≡◌, ◌≤◌, ◌<◌, ◌^◌, fals
 ghost use Rattle.std.specs.Io.KnownBytes.{Keeps};
 ghost use Rattle.scenario_text.specs.Grammar.{scenario_of};
 ghost use Rattle.commands.specs.Commands.{asks_reading};
-ghost use Rattle.commands.specs.Outcome.{answered, made_outcome};
+ghost use Rattle.history_reports.specs.Reports.{report_of};
+ghost use Rattle.commands.specs.Outcome.{answered, made_outcome, read_outcome, reported};
 ghost use Rattle.commands.specs.Answers.{due_of};
 ghost use Rattle.commands.specs.Calls.{IsReadDue, IsDue};
 
 use crate::answer::Answer;
-use crate::command::{Command, Making, Reading, command_of};
+use crate::command::{Command, Making, Reading, Rewriting, command_of};
 use edge::ends::Source;
 use edge::reading::{InputFault, read_to_limit};
 use edge::words::Words;
+use history_reports::{Judging, tell};
 use kern_ids::entries::NoMemory;
 use kern_ids::faults::ReadFault;
 use scenario_maker::make_scenario;
@@ -20,22 +22,49 @@ use scenario_text::read_scenario;
 use serial_run::run_serial;
 use std::alloc::Global;
 
-// What is answered where the input was read whole.
-fn answer_input(alloc: Global, reading: Reading, input: &[u8]) -> Result<Answer, NoMemory>
+// What is answered where the input is to be a scenario.
+fn answer_scenario(
+    alloc: Global,
+    rewriting: Rewriting,
+    input: &[u8],
+) -> Result<Answer, NoMemory>
     requires { length input.now < 2 ^ 31 }
-    ensures { IfOk result (λ a. due_of a ≡ answered reading (scenario_of input.now)) }
+    ensures { IfOk result (λ a. due_of a ≡ answered rewriting (scenario_of input.now)) }
 {
     let scenario = match read_scenario(alloc, input) {
         Ok(scenario) => scenario,
         Err(ReadFault::Bad { line, why }) => return Ok(Answer::BadLine(line, why)),
         Err(ReadFault::NoMemory) => return Err(NoMemory),
     };
-    match reading {
-        Reading::Serial => {
+    match rewriting {
+        Rewriting::Serial => {
             let history = run_serial(alloc, &scenario)?;
             Ok(Answer::Run(scenario, history))
         }
-        Reading::Migrate => Ok(Answer::Rewritten(scenario.into_two())),
+        Rewriting::Migrate => Ok(Answer::Rewritten(scenario.into_two())),
+    }
+}
+
+// What is answered where the input is to be a scenario with a history.
+fn answer_history(alloc: Global, judging: Judging, input: &[u8]) -> Result<Answer, NoMemory>
+    requires { length input.now < 2 ^ 31 }
+    ensures { IfOk result (λ a. due_of a ≡ reported (report_of judging input.now)) }
+{
+    match tell(alloc, judging, input) {
+        Ok(report) => Ok(Answer::Reported(report)),
+        Err(ReadFault::Bad { line, why }) => Ok(Answer::BadLine(line, why)),
+        Err(ReadFault::NoMemory) => Err(NoMemory),
+    }
+}
+
+// What is answered where the input was read whole.
+fn answer_input(alloc: Global, reading: Reading, input: &[u8]) -> Result<Answer, NoMemory>
+    requires { length input.now < 2 ^ 31 }
+    ensures { IfOk result (λ a. due_of a ≡ read_outcome reading input.now) }
+{
+    match reading {
+        Reading::Rewrite(rewriting) => answer_scenario(alloc, rewriting, input),
+        Reading::Judge(judging) => answer_history(alloc, judging, input),
     }
 }
 

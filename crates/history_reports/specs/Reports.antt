@@ -22,6 +22,7 @@ use Rattle.serde_json.specs.Written.{compact_text}
 use Rattle.history_reports.specs.declared.report.Judging.{Judging}
 use Rattle.history_reports.specs.declared.report.Judging.TheVariants as judging
 use Rattle.history_reports.specs.declared.report.Report.{Report}
+use Rattle.history_reports.specs.declared.report.Report.TheVariants as report
 
 -- a history and the scenario before it
 abbrev pub with_plan : Plan → Result (List Entry) (ℕ × Why) → Result (Plan × List Entry) (ℕ × Why)
@@ -51,6 +52,12 @@ no_entry n many = codes "jetlab: no entry " ++ decimal n ++ codes " of " ++ deci
 -- an exit status and a text
 abbrev pub Told : Type 0
 Told = ℕ × List ℕ
+
+-- a report has its status: 0 where it tells what was asked, 6 for another verdict than Legal, 8 where there is no such entry
+abbrev pub told_of : Report → Told
+told_of (report.Legal text) = (0, text.items)
+told_of (report.Wrong text) = (6, text.items)
+told_of (report.NoEntry text) = (8, text.items)
 
 -- the entry and why it was answered so, or that there is none
 abbrev pub why_told : ℕ → ℕ → Option (List ℕ) → Told
@@ -89,5 +96,5 @@ InputGives (Ok r) said = said ≡ Ok (r.0, r.1.list)
 InputGives (Err e) said = Fails e said
 
 abbrev pub ReportGives : Result Report ReadFault → Result Told (ℕ × Why) → Type 0
-ReportGives (Ok r) said = said ≡ Ok (r.status, r.text.items)
+ReportGives (Ok r) said = said ≡ Ok (told_of r)
 ReportGives (Err e) said = Fails e said

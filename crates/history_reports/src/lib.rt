@@ -2,6 +2,7 @@
 #![tactic(auto)]
 
 mod input;
+pub mod law;
 mod lines;
 pub mod report;
 

@@ -3,7 +3,7 @@
 ghost use Rattle.std.specs.Prelude.{◌≡◌, ◌<◌, ◌≤◌, ◌^◌, length, reverse, IfOk};
 ghost use Rattle.report_tables.specs.Facts.{facts_of};
 ghost use Rattle.replay_check.specs.Verdicts.{verdict_of};
-ghost use Rattle.history_reports.specs.Reports.{reported, told_by, why_told, report_of, ReportGives};
+ghost use Rattle.history_reports.specs.Reports.{reported, told_by, told_of, report_of, ReportGives};
 
 use crate::input::read_input;
 use crate::lines::{legal_line, missing_line, no_entry_line, wrong_call_line, wrong_reply_line};
@@ -27,20 +27,45 @@ pub enum Judging {
     Why(u32),
 }
 
-/// An exit status and a text.
+/// What is told, as a text.
 #[derive(Drop)]
-pub struct Report {
-    pub status: u8,
-    pub text: Vec<u8>,
+pub enum Report {
+    /// The history is legal and whole, and this was asked of it.
+    Legal(Vec<u8>),
+    /// The history isn't legal and whole: its verdict.
+    Wrong(Vec<u8>),
+    /// There is no entry of the number that was asked for.
+    NoEntry(Vec<u8>),
 }
 
-// The text of a line.
-fn told(alloc: Global, status: u8, line: &[u8]) -> Result<Report, NoMemory>
-    ensures status { IfOk result (λ r. r.status ≡ status) }
-    ensures text { IfOk result (λ r. r.text.items ≡ line.now) }
+impl Report {
+    /// The exit status.
+    pub fn status(&self) -> u8
+        ensures { result ≡ (told_of self.now).0 }
+    {
+        match self {
+            Report::Legal(_) => 0,
+            Report::Wrong(_) => 6,
+            Report::NoEntry(_) => 8,
+        }
+    }
+
+    /// The text.
+    pub fn text(&self) -> &[u8]
+        ensures { result.now ≡ (told_of self.now).1 }
+    {
+        match self {
+            Report::Legal(text) | Report::Wrong(text) | Report::NoEntry(text) => text,
+        }
+    }
+}
+
+// A line, as a text.
+fn text_of(alloc: Global, line: &[u8]) -> Result<Vec<u8>, NoMemory>
+    ensures { IfOk result (λ text. text.items ≡ line.now) }
 {
     match line.to_vec(alloc) {
-        Ok(text) => Ok(Report { status, text }),
+        Ok(text) => Ok(text),
         Err(_) => Err(NoMemory),
     }
 }
@@ -51,11 +76,14 @@ fn report_why(
     history: &EntryList,
     n: u32,
 ) -> Result<Report, NoMemory>
-    ensures { IfOk result (λ r. (r.status, r.text.items) ≡ reported (Judging.Why n) scenario.now history.now.list) }
+    ensures { IfOk result (λ r. told_of r ≡ reported (Judging.Why n) scenario.now history.now.list) }
 {
     match why_text(alloc, scenario.boot(), history, n)? {
-        Some(text) => Ok(Report { status: 0, text }),
-        None => told(alloc, 8, no_entry_line(n, history.len()).as_slice()),
+        Some(text) => Ok(Report::Legal(text)),
+        None => {
+            let text = text_of(alloc, no_entry_line(n, history.len()).as_slice())?;
+            Ok(Report::NoEntry(text))
+        }
     }
 }
 
@@ -66,19 +94,22 @@ fn report_whole(
     scenario: &Scenario,
     history: &EntryList,
 ) -> Result<Report, NoMemory>
-    ensures { IfOk result (λ r. (r.status, r.text.items) ≡ reported judging scenario.now history.now.list) }
+    ensures { IfOk result (λ r. told_of r ≡ reported judging scenario.now history.now.list) }
 {
     match judging {
-        Judging::Check => told(alloc, 0, legal_line().as_slice()),
+        Judging::Check => {
+            let text = text_of(alloc, legal_line().as_slice())?;
+            Ok(Report::Legal(text))
+        }
         Judging::Table => {
             let facts = Facts::of_history(alloc, scenario.boot(), history.as_slice())?;
             let text = table_text(alloc, &facts)?;
-            Ok(Report { status: 0, text })
+            Ok(Report::Legal(text))
         }
         Judging::Json => {
             let facts = Facts::of_history(alloc, scenario.boot(), history.as_slice())?;
             let text = json_text(alloc, &facts)?;
-            Ok(Report { status: 0, text })
+            Ok(Report::Legal(text))
         }
         Judging::Why(n) => report_why(alloc, scenario, history, n),
     }
@@ -92,15 +123,22 @@ fn report_on(
     history: &EntryList,
 ) -> Result<Report, NoMemory>
     requires { length history.now.list ≤ 200000 }
-    ensures { IfOk result (λ r. (r.status, r.text.items) ≡ told_by judging scenario.now history.now.list (verdict_of scenario.now history.now.list)) }
+    ensures { IfOk result (λ r. told_of r ≡ told_by judging scenario.now history.now.list (verdict_of scenario.now history.now.list)) }
 {
     match check(alloc, scenario, history)? {
         Verdict::Legal => report_whole(alloc, judging, scenario, history),
         Verdict::WrongReply { place, expected } => {
-            told(alloc, 6, wrong_reply_line(place, &expected).as_slice())
+            let text = text_of(alloc, wrong_reply_line(place, &expected).as_slice())?;
+            Ok(Report::Wrong(text))
         }
-        Verdict::WrongCall { place } => told(alloc, 6, wrong_call_line(place).as_slice()),
-        Verdict::Missing { thread } => told(alloc, 6, missing_line(thread).as_slice()),
+        Verdict::WrongCall { place } => {
+            let text = text_of(alloc, wrong_call_line(place).as_slice())?;
+            Ok(Report::Wrong(text))
+        }
+        Verdict::Missing { thread } => {
+            let text = text_of(alloc, missing_line(thread).as_slice())?;
+            Ok(Report::Wrong(text))
+        }
     }
 }
 

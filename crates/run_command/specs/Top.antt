@@ -42,7 +42,7 @@ pub record IsSerialResult (words : List Word) (old new : Option (List ℕ)) (fau
   pub read : status ≡ 4 → IsReadFault words faults later × Appends held holds read_fault
   pub write : status ≡ 5 → Rose sunk deeper × WritesSerialFront words old new faults later held holds
   pub memory : status ≡ 9 → Keeps held holds
-  pub statuses : Contains (0 ∷ 2 ∷ 3 ∷ 4 ∷ 5 ∷ 7 ∷ 9 ∷ []) status
+  pub statuses : Contains (0 ∷ 2 ∷ 3 ∷ 4 ∷ 5 ∷ 6 ∷ 7 ∷ 8 ∷ 9 ∷ []) status
   pub unread : asks_reading words ≡ false → Keeps old new × (later ≡ faults)
   pub complete : IsSerialAccepted words old → ¬ Rose faults later → ¬ Rose sunk deeper → (status ≡ 0) ⊎ (status ≡ 9)
   pub grows : (faults ≤ later) × (sunk ≤ deeper)
