@@ -41,3 +41,6 @@ pub mod Accesses
 pub mod ReadWrite
 pub mod HeldMapped
 pub mod ScanDecision
+pub mod Threads
+pub mod UnmapSteps
+pub mod UnmapCall
