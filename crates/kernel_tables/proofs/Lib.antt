@@ -44,3 +44,7 @@ pub mod ScanDecision
 pub mod Threads
 pub mod UnmapSteps
 pub mod UnmapCall
+pub mod Parting
+pub mod Ending
+pub mod EndCall
+pub mod EndEntries

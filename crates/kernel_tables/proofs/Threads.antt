@@ -25,9 +25,9 @@ find-passes p (y ∷ ys) x h is = elim (cases_Bool (p y)) [
   ])
 ]
 
-by_one : (o : Option ℕ) (t : ℕ) → option_map_or (nat_eq t) o false ≡ true → o ≡ Some t
-by_one (Some u) t h = elim (eqb_tells t u) [ inl same ↦ ap (λ (x : ℕ). Some x) (sym same.1) | inr other ↦ absurd (false≢true (sym other.0 ∙ h)) ]
-by_one None t h = absurd (false≢true h)
+pub by-one : (o : Option ℕ) (t : ℕ) → option_map_or (nat_eq t) o false ≡ true → o ≡ Some t
+by-one (Some u) t h = elim (eqb_tells t u) [ inl same ↦ ap (λ (x : ℕ). Some x) (sym same.1) | inr other ↦ absurd (false≢true (sym other.0 ∙ h)) ]
+by-one None t h = absurd (false≢true h)
 
 side_some : (side : Option Side) (t : ℕ) → option_and_then task_of_side side ≡ Some t → (x : Side) × (side ≡ Some x)
 side_some (Some x) t h = (x, refl)
@@ -40,4 +40,4 @@ pub thread-of : (boot : System) (who t : ℕ) → task_of boot who ≡ Some t �
 unfolding thread_of
 thread-of boot who t by =
     let below : who < 0 + length boot.sides = (let d = thread-declared boot who t by in omega arith) in
-    by_one (task_of boot (thread_of boot t)) t (find-passes (runs_for boot t) (range_with_len 0 (length boot.sides)) who (range-has 0 (length boot.sides) who zero-le below) (runs-for boot who t t by ∙ same-number t))
+    by-one (task_of boot (thread_of boot t)) t (find-passes (runs_for boot t) (range_with_len 0 (length boot.sides)) who (range-has 0 (length boot.sides) who zero-le below) (runs-for boot who t t by ∙ same-number t))

@@ -124,8 +124,8 @@ module _ (boot : System) (who o t : ℕ) (before : List Entry) (v : IsValidBoot 
   pub unmap-mapped : mapped boot before o ≡ true
   unmap-mapped = caller-mapped boot before o t v own
 
-  mapped_was : (x : ℕ) → mapped boot (entry ∷ before) x ≡ true → mapped boot before x ≡ true
-  mapped_was x h = elim (eqb_tells o x) [
+  pub unmap-was : (x : ℕ) → mapped boot (entry ∷ before) x ≡ true → mapped boot before x ≡ true
+  unmap-was x h = elim (eqb_tells o x) [
     | inl same ↦ subst (λ (y : ℕ). mapped boot before y ≡ true) same.1 unmap-mapped
     | inr other ↦ sym (mapped_other x other.0) ∙ h
   ]
@@ -202,11 +202,11 @@ module _ (boot : System) (who o t : ℕ) (before : List Entry) (v : IsValidBoot 
             (λ n. task-removed (object_at objects o).mapping t u there ∙ ap (λ b. not (nat_eq u t) && b) (s.mappers o u n) ∙ sym (unmap-here u))
             (λ y d n. s.mappers y u n ∙ sym (maps_other y (other-number y o d) u)) x m;
         states = λ x m k. changed-each (λ y object. y < length boot.objects → mapped boot (entry ∷ before) y ≡ true → object.state ≡ state (entry ∷ before) y) objects o (unmapped_by t) l
-            (λ n h. s.states o n (mapped_was o h) ∙ sym (unmap-state o))
-            (λ y d n h. s.states y n (mapped_was y h) ∙ sym (unmap-state y)) x m k;
+            (λ n h. s.states o n (unmap-was o h) ∙ sym (unmap-state o))
+            (λ y d n h. s.states y n (unmap-was y h) ∙ sym (unmap-state y)) x m k;
         written = λ p m k. changed-each (λ y object. y ≡ p.obj → get_or object.written p.page false ≡ written (entry ∷ before) p) objects o (unmapped_by t) l
-            (λ e. ap (λ (z : ℕ). get_or (object_at objects z).written p.page false) e ∙ s.written p m (mapped_was p.obj k) ∙ sym (unmap-written p))
-            (λ y d e. ap (λ (z : ℕ). get_or (object_at objects z).written p.page false) e ∙ s.written p m (mapped_was p.obj k) ∙ sym (unmap-written p)) p.obj refl;
+            (λ e. ap (λ (z : ℕ). get_or (object_at objects z).written p.page false) e ∙ s.written p m (unmap-was p.obj k) ∙ sym (unmap-written p))
+            (λ y d e. ap (λ (z : ℕ). get_or (object_at objects z).written p.page false) e ∙ s.written p m (unmap-was p.obj k) ∙ sym (unmap-written p)) p.obj refl;
       }
 
   -- the accounts

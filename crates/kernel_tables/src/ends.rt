@@ -1,32 +1,37 @@
 //! The accepted calls that end mappings and tasks.
 
-ghost use Rattle.std.specs.Prelude.{◌≡◌, ◌∷◌, ◌<◌, ◌≤◌, ◌-◌, ◌&&◌, ℕ, List, IsSome, IsTrue, None, Some, false, true, length, map, not, slice_index_or, if◌then◌else◌};
-ghost use Rattle.kern_ids.specs.declared.calls.Call.TheVariants.{Unmap};
+ghost use Rattle.std.specs.Prelude.{◌≡◌, ◌∷◌, ◌<◌, ◌≤◌, ◌+◌, ◌-◌, ◌&&◌, ℕ, List, IsSome, IsTrue, None, Some, false, true, length, map, nat_eq, not, set, slice_index_or, if◌then◌else◌};
+ghost use Rattle.kern_ids.specs.declared.calls.Call.TheVariants.{Exit, Jetsam, Unmap};
 ghost use Rattle.kern_ids.specs.declared.calls.Queue.{Queue as AQueue};
 ghost use Rattle.kern_ids.specs.declared.entries.Entry.{Entry};
+ghost use Rattle.kern_ids.specs.declared.replies.Reply.TheVariants.{Killed};
 ghost use Rattle.kernel_model.specs.Answers.{answer, refusal};
 ghost use Rattle.kernel_model.specs.Events.{task_of as task_by};
 ghost use Rattle.kernel_model.specs.Groups.{is_volatile_state};
-ghost use Rattle.kernel_model.specs.Histories.{fits};
+ghost use Rattle.kernel_model.specs.Histories.{fits, IsLegal};
 ghost use Rattle.kernel_model.specs.Laws.Kinds.{unmap_entry};
 ghost use Rattle.kernel_model.specs.Mapping.{maps};
 ghost use Rattle.link_list.specs.KeyLists.{place_of, without};
 ghost use Rattle.page_queues.specs.Pages.{inactive, is_marked, is_of_first, without_object};
 ghost use Rattle.page_queues.specs.Tallies.{count_of};
 ghost use Rattle.ripen_advance.specs.Queues.{dues_in};
+ghost use Rattle.idle_ageing.specs.Ageing.{count_of as count_at};
+ghost use Rattle.priority_bands.specs.Banded.{removed};
+ghost use Rattle.task_ledger.specs.Accounts.{account_of};
 ghost use Rattle.token_list.specs.Dues.{lowered_by};
 ghost use Rattle.vm_object.specs.Objects.{object_at};
 ghost use Rattle.volatile_groups.specs.Grouped.{queue_of};
 ghost use Rattle.kernel_tables.specs.Ends as ends;
-ghost use Rattle.kernel_tables.specs.Ends.{StandsOver};
+ghost use Rattle.kernel_tables.specs.Ends.{IsEnding, StandsOver};
 ghost use Rattle.kernel_tables.specs.Stands.{Stands};
 ghost use Rattle.kernel_tables.specs.Values.{values, entry_of};
 
 use crate::charging::{burden, relieve};
-use crate::parts::{ObjectParts, Parts};
+use crate::parts::{ObjectParts, Parts, TaskParts};
+use jetsam_pick::verdict::JetsamVerdict;
 use kern_ids::calls::State;
 use kern_ids::ids::{ObjId, TaskId, ThreadId};
-use kern_ids::replies::Reply;
+use kern_ids::replies::{Cause, Reply};
 use kernel_model::events::task_of;
 
 /// Whether an object is VOLATILE.
@@ -101,6 +106,25 @@ impl ObjectParts {
     }
 }
 
+impl TaskParts {
+    /// The account of a task is no longer live, the task leaves its band, and it counts no more.
+    fn end(&mut self, t: TaskId)
+        requires accounts { t < length self.old.ledgers }
+        requires ages { t < length self.old.ages.delays }
+        ensures ledgers { self.new.ledgers ≡ set self.old.ledgers t (record (account_of self.old.ledgers t) { live = false }) }
+        ensures wishes { self.new.wishes.items ≡ self.old.wishes.items }
+        ensures bands { self.new.bands ≡ removed self.old.bands t }
+        ensures delays { self.new.ages.delays ≡ self.old.ages.delays }
+        ensures here { count_at self.new.ages t ≡ None }
+        ensures others { (u : ℕ) → nat_eq u t ≡ false → count_at self.new.ages u ≡ count_at self.old.ages u }
+    {
+        self.ages.are_paired();
+        self.ledgers.end(t);
+        self.bands.remove(t);
+        self.ages.stop(t);
+    }
+}
+
 impl Parts {
     /// A task ceases to map an object: its charge goes to the next owner, and where the task was the last one that
     /// mapped it, the object is retired.
@@ -128,6 +152,53 @@ impl Parts {
         self.objects.retire_if(last, o);
     }
 
+    /// A task ceases to map an object, if it maps it.
+    fn leave_if(&mut self, o: ObjId, t: TaskId)
+        ghost past: { List Entry }
+        requires over { StandsOver (values self.old) (ends.parted self.old.boot past t o) }
+        requires object { o < length self.old.boot.objects }
+        ensures over { StandsOver (values self.new) (ends.parted self.old.boot past t (o + 1)) }
+        ensures boot { self.new.boot ≡ self.old.boot }
+        ensures bands { self.new.tasks.bands ≡ self.old.tasks.bands }
+        ensures ages { self.new.tasks.ages ≡ self.old.tasks.ages }
+        ensures wishes { self.new.tasks.wishes.items ≡ self.old.tasks.wishes.items }
+    {
+        self.boot.valid();
+        if self.objects.table.maps(o, t) {
+            self.leave(o, t);
+        }
+    }
+
+    /// A task ceases to map the objects that it maps, in the order of their numbers.
+    fn leave_all(&mut self, t: TaskId)
+        ghost past: { List Entry }
+        requires over { StandsOver (values self.old) past }
+        ensures over { StandsOver (values self.new) (ends.parted self.old.boot past t (length self.old.boot.objects)) }
+        ensures boot { self.new.boot ≡ self.old.boot }
+        ensures bands { self.new.tasks.bands ≡ self.old.tasks.bands }
+        ensures ages { self.new.tasks.ages ≡ self.old.tasks.ages }
+        ensures wishes { self.new.tasks.wishes.items ≡ self.old.tasks.wishes.items }
+    {
+        let count = self.boot.objects().len() as u32;
+        for i in 0..count {
+            let o = ObjId::new(i).unwrap();
+            self.leave_if(o, t);
+        }
+    }
+
+    /// A task ends: it ceases to map its objects, its account is no longer live, it leaves its band, and it counts no more.
+    fn end(&mut self, t: TaskId)
+        ghost past: { List Entry }
+        requires stands { Stands (values self.old) past }
+        requires task { t < length self.old.boot.tasks }
+        ensures stands { (e : Entry) → IsEnding self.old.boot e past t → IsLegal self.old.boot (e ∷ past) → Stands (values self.new) (e ∷ past) }
+        ensures boot { self.new.boot ≡ self.old.boot }
+    {
+        self.boot.valid();
+        self.leave_all(t);
+        self.tasks.end(t);
+    }
+
     /// Unmap, where it is not refused.
     pub(crate) fn unmap(&mut self, who: ThreadId, o: ObjId) -> Reply
         ghost past: { List Entry }
@@ -142,5 +213,54 @@ impl Parts {
         let t = task_of(&self.boot, who).unwrap();
         self.leave(o, t);
         Reply::Unmapped
+    }
+
+    /// Exit, where it is not refused.
+    pub(crate) fn exit(&mut self, who: ThreadId) -> Reply
+        ghost past: { List Entry }
+        requires stands { Stands (values self.old) past }
+        requires fits { IsTrue (fits self.old.boot who Exit) }
+        requires accepted { refusal self.old.boot past who Exit ≡ None }
+        ensures reply { result ≡ answer self.old.boot past who Exit }
+        ensures stands { Stands (values self.new) (entry_of who Exit result ∷ past) }
+        ensures boot { self.new.boot ≡ self.old.boot }
+    {
+        self.boot.valid();
+        let t = task_of(&self.boot, who).unwrap();
+        self.end(t);
+        Reply::Exited
+    }
+
+    /// Jetsam, where the verdict is that a task is killed.
+    fn kill(&mut self, who: ThreadId, t: TaskId, cause: Cause) -> Reply
+        ghost past: { List Entry }
+        requires stands { Stands (values self.old) past }
+        requires fits { IsTrue (fits self.old.boot who Jetsam) }
+        requires decided { answer self.old.boot past who Jetsam ≡ Killed t cause }
+        requires live { (account_of self.old.tasks.ledgers t).live ≡ true }
+        ensures reply { result ≡ answer self.old.boot past who Jetsam }
+        ensures stands { Stands (values self.new) (entry_of who Jetsam result ∷ past) }
+        ensures boot { self.new.boot ≡ self.old.boot }
+    {
+        self.boot.valid();
+        self.end(t);
+        Reply::Killed(t, cause)
+    }
+
+    /// Jetsam, where it is not refused.
+    pub(crate) fn jetsam(&mut self, who: ThreadId) -> Reply
+        ghost past: { List Entry }
+        requires stands { Stands (values self.old) past }
+        requires fits { IsTrue (fits self.old.boot who Jetsam) }
+        requires accepted { refusal self.old.boot past who Jetsam ≡ None }
+        ensures reply { result ≡ answer self.old.boot past who Jetsam }
+        ensures stands { Stands (values self.new) (entry_of who Jetsam result ∷ past) }
+        ensures boot { self.new.boot ≡ self.old.boot }
+    {
+        match self.verdict() {
+            JetsamVerdict::Quiet => self.stay_quiet(who),
+            JetsamVerdict::Kill(t, cause) => self.kill(who, t, cause),
+            JetsamVerdict::NoVictim => self.find_no_victim(who),
+        }
     }
 }
