@@ -1,12 +1,10 @@
 -- The end of a task over the tables, by an Exit or by jetsam.
-use Rattle.std.proofs.Common.{◌≡◌, ℕ, ◌+◌, ◌<◌, ◌≤◌, List, [], ◌∷◌, length, map, set, Option, Some, None, refl, sym, ap, ap₂, ◌∙◌, subst, Bool, true, false, not, ◌&&◌, ◌||◌, nat_eq, arith}
-use Rattle.std.proofs.lemmas.Bool.Decides.{nat_tests}
+use Rattle.std.proofs.Common.{◌≡◌, ℕ, ◌<◌, ◌≤◌, List, ◌∷◌, length, set, None, sym, ap, ◌∙◌, subst, false, nat_eq, arith}
 use Rattle.std.proofs.lemmas.List.{length-map}
 use Rattle.kern_ids.specs.declared.entries.Entry.{Entry}
 use Rattle.kernel_model.specs.declared.boot.TaskBoot.{TaskBoot}
 use Rattle.kernel_model.specs.System.{System}
 use Rattle.kernel_model.specs.Valid.{IsValidBoot}
-use Rattle.kernel_model.specs.Mapping.{live}
 use Rattle.kernel_model.specs.Histories.{IsLegal}
 use Rattle.idle_ageing.specs.Ageing.{Ageing, count_of as count_at}
 use Rattle.priority_bands.specs.Banded.{removed}

@@ -1,19 +1,15 @@
 -- The entries of an Exit and of a kill end their task.
-use Rattle.std.proofs.Common.{◌≡◌, ℕ, ◌<◌, List, ◌∷◌, length, get_or, Option, Some, None, refl, sym, ap, ◌∙◌, subst, Bool, true, false, not, ◌&&◌, inl, inr, nat_eq, arith}
-use Rattle.std.specs.Prelude.{IsTrue}
+use Rattle.std.proofs.Common.{◌≡◌, ℕ, ◌<◌, List, length, Some, None, refl, sym, ap, ◌∙◌, true, not, ◌&&◌, inl, inr, arith}
 use Rattle.std.proofs.lemmas.Bool.{cases_lt, false≢true}
 use Rattle.std.proofs.lemmas.List.{get_or_past}
 use Rattle.kern_ids.specs.declared.entries.Entry.{Entry}
-use Rattle.kern_ids.specs.declared.calls.Call.TheVariants.{Exit, Jetsam}
+use Rattle.kern_ids.specs.declared.calls.Call.TheVariants.{Exit}
 use Rattle.kern_ids.specs.declared.replies.Cause.{Cause}
-use Rattle.kern_ids.specs.declared.replies.Reply.{Reply}
-use Rattle.kern_ids.specs.declared.replies.Reply.TheVariants.{Exited, Killed}
+use Rattle.kern_ids.specs.declared.replies.Reply.TheVariants.{Exited}
 use Rattle.kernel_model.specs.System.{System}
-use Rattle.kernel_model.specs.Valid.{IsValidBoot}
 use Rattle.kernel_model.specs.Events.{task_of}
 use Rattle.kernel_model.specs.Mapping.{live, maps}
 use Rattle.kernel_model.specs.Answers.{answer, refusal}
-use Rattle.kernel_model.specs.Histories.{fits, IsLegal}
 use Rattle.kernel_model.specs.Laws.Kinds.{exit_entry, killed_entry}
 use Rattle.kernel_model.proofs.Laws.Kept.{placed-kept, touched_since-kept, written-kept, entered-kept, standing-kept, wish-kept, active-kept, limits-kept, placing-kept, ticks-kept}
 use Rattle.kernel_model.proofs.Laws.Kinds.{live-exit, live-killed, maps-exit, maps-killed, deadlines-unmapped, sets_active-none}

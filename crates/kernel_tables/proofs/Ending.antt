@@ -1,17 +1,15 @@
 -- The end of a task: what holds over the history in which it unmapped its objects one by one holds over the one in which it ends.
-use Rattle.std.proofs.Common.{◌≡◌, ℕ, suc, ◌+◌, ◌-◌, ◌<◌, ◌≤◌, List, [], ◌∷◌, length, map, filter, set, cond, Option, Some, None, refl, sym, ap, ap₂, ◌∙◌, subst, Bool, true, false, not, ◌&&◌, ◌||◌, if◌then◌else◌, inl, inr, nat_eq, nat_lt, zero-le, arith}
-use Rattle.std.specs.Prelude.{fold, count_by, min}
-use Rattle.std.specs.List.{range_with_len, list_any}
+use Rattle.std.proofs.Common.{◌≡◌, ℕ, ◌+◌, ◌-◌, ◌<◌, List, [], ◌∷◌, length, map, set, cond, Option, None, refl, sym, ap, ap₂, ◌∙◌, subst, Bool, true, false, not, ◌&&◌, ◌||◌, if◌then◌else◌, inl, inr, nat_eq, nat_lt, arith}
+use Rattle.std.specs.Prelude.{fold, count_by}
 use Rattle.std.specs.Option.{option_map_or}
-use Rattle.std.proofs.lemmas.Bool.{cases_Bool, false≢true, true≢false, and_parts}
+use Rattle.std.proofs.lemmas.Bool.{cases_Bool, false≢true, and_parts}
 use Rattle.std.proofs.lemmas.Bool.Decides.{eqb_tells, nat_tests}
-use Rattle.std.proofs.lemmas.List.{length-set, length-map, get_or-set_same, get_or-set_other}
+use Rattle.std.proofs.lemmas.List.{length-set, get_or-set_same, get_or-set_other}
 use Rattle.kern_ids.specs.declared.entries.Entry.{Entry}
 use Rattle.kern_ids.specs.declared.ids.PageId.{PageId}
 use Rattle.kern_ids.specs.declared.calls.Queue.{Queue}
 use Rattle.kern_ids.specs.declared.calls.State.{State}
 use Rattle.kern_ids.specs.declared.replies.Counts.{Counts}
-use Rattle.kernel_model.specs.declared.boot.TaskBoot.{TaskBoot}
 use Rattle.kernel_model.specs.declared.place.Place.{Place}
 use Rattle.kernel_model.specs.declared.place.Place.TheVariants.{Absent}
 use Rattle.kernel_model.specs.declared.place.Placed.{Placed}
@@ -25,7 +23,7 @@ use Rattle.kernel_model.specs.Pages.{place, placed, pages_of, is_active, is_inac
 use Rattle.kernel_model.specs.Groups.{volatile, standing, stands_in, objects_of, is_volatile_state, is_lifo, same_queue}
 use Rattle.kernel_model.specs.Deadlines.{Deadlines, deadlines, of_queue, without_first}
 use Rattle.kernel_model.specs.Counted.{counts, count_of, owned_by, is_resident, is_nonvolatile_state}
-use Rattle.kernel_model.specs.Bands.{Placing, Limits, band, bstamp, active, limits, counts_for_ageing, of_task, ticks}
+use Rattle.kernel_model.specs.Bands.{Placing, Limits, band, counts_for_ageing}
 use Rattle.kernel_model.specs.Scan.{stamp_lt}
 use Rattle.kernel_model.specs.Histories.{IsLegal}
 use Rattle.kernel_model.specs.Laws.Order.{Has, Keeps}
@@ -38,7 +36,7 @@ use Rattle.kernel_model.proofs.Laws.Order.{rising-agree}
 use Rattle.kernel_model.proofs.Laws.Pages.{left-is}
 use Rattle.kernel_model.proofs.Laws.Queues.{band-filter, has-range}
 use Rattle.kernel_model.proofs.Laws.Untouched.{has-pages}
-use Rattle.link_list.specs.KeyLists.{list_at, without}
+use Rattle.link_list.specs.KeyLists.{list_at}
 use Rattle.page_queues.specs.Pages.{Pages}
 use Rattle.priority_bands.specs.Banded.{removed}
 use Rattle.ripen_advance.specs.Queues.{QueueDues}
@@ -46,11 +44,11 @@ use Rattle.vm_object.specs.Objects.{Object}
 use Rattle.idle_ageing.specs.Ageing.{Ageing, count_of as count_at}
 use Rattle.task_ledger.specs.declared.account.Account.{Account}
 use Rattle.task_ledger.specs.Accounts.{account_of, no_account}
-use Rattle.kernel_tables.specs.Ends.{IsEnding, StandsOver}
+use Rattle.kernel_tables.specs.Ends.{IsEnding}
 use Rattle.kernel_tables.specs.Stands.{PagesStand, QueuesStand, ObjectsStand, AccountsStand, BandsStand, IsAccount, counted_ticks}
 use Rattle.kernel_tables.proofs.Dropped.{filter-within}
 use Rattle.kernel_tables.proofs.Lists.{removed-at}
-use Rattle.kernel_tables.proofs.Parting.{IsParted, goes_with, others_map}
+use Rattle.kernel_tables.proofs.Parting.{IsParted, goes_with}
 use Rattle.kernel_tables.proofs.Placing.{ages-one, counted-kept}
 use Rattle.kernel_tables.proofs.Unmapped.{absent-unmapped}
 

@@ -1,5 +1,5 @@
 -- The history as if a task had unmapped its objects one by one, beside the one in which it did not.
-use Rattle.std.proofs.Common.{◌≡◌, ℕ, zero, suc, ◌+◌, ◌<◌, ◌≤◌, List, [], ◌∷◌, ◌++◌, length, filter, cond, Option, Some, None, refl, sym, ap, ap₂, ◌∙◌, subst, Bool, true, false, not, ◌&&◌, ◌||◌, if◌then◌else◌, inl, inr, nat_eq, nat_lt, arith}
+use Rattle.std.proofs.Common.{◌≡◌, ℕ, zero, suc, ◌+◌, ◌<◌, ◌≤◌, List, [], ◌∷◌, ◌++◌, length, filter, cond, Some, None, refl, sym, ap, ap₂, ◌∙◌, subst, Bool, true, false, not, ◌&&◌, ◌||◌, if◌then◌else◌, inl, inr, nat_eq, nat_lt, arith}
 use Rattle.std.specs.Prelude.{fold}
 use Rattle.std.specs.Option.{unwrap_or}
 use Rattle.std.specs.List.{range_with_len, list_any}
@@ -19,7 +19,7 @@ use Rattle.kernel_model.specs.Groups.{volatile, standing, is_volatile_state}
 use Rattle.kernel_model.specs.Deadlines.{Deadlines, deadlines, without_first}
 use Rattle.kernel_model.specs.Bands.{active, limits}
 use Rattle.kernel_model.specs.Histories.{IsLegal}
-use Rattle.kernel_model.specs.Laws.Kinds.{runs_for, unmap_entry}
+use Rattle.kernel_model.specs.Laws.Kinds.{unmap_entry}
 use Rattle.kernel_model.proofs.Laws.Agree.{any-agree}
 use Rattle.kernel_model.proofs.Laws.Mapping.{mapped-is, said_maps-none, said_maps-more}
 use Rattle.kernel_tables.specs.Ends.{parted, thread_of}

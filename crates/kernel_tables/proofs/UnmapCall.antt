@@ -1,7 +1,7 @@
 -- Unmap over the tables: what each step asks, and that the tables stand for the history with the Unmap.
-use Rattle.std.proofs.Common.{◌≡◌, ℕ, ◌+◌, ◌-◌, ◌<◌, ◌≤◌, List, [], ◌∷◌, length, map, drop, Option, Some, None, refl, sym, ap, ap₂, ◌∙◌, subst, Bool, true, false, not, ◌&&◌, nat_eq, if◌then◌else◌, inl, inr, arith, zero-le}
+use Rattle.std.proofs.Common.{◌≡◌, ℕ, ◌+◌, ◌-◌, ◌<◌, ◌≤◌, List, ◌∷◌, length, map, drop, Option, Some, None, refl, sym, ap, ap₂, ◌∙◌, subst, Bool, true, false, not, ◌&&◌, nat_eq, if◌then◌else◌, inl, inr, arith, zero-le}
 use Rattle.std.specs.Prelude.{IsSome, IsTrue, slice_index_or}
-use Rattle.std.proofs.lemmas.Bool.{cases_Bool, false≢true, true≢false}
+use Rattle.std.proofs.lemmas.Bool.{cases_Bool}
 use Rattle.std.proofs.lemmas.Bool.Decides.{nat_tests}
 use Rattle.kern_ids.specs.declared.entries.Entry.{Entry}
 use Rattle.kern_ids.specs.declared.calls.Call.TheVariants.{Unmap}
@@ -14,7 +14,7 @@ use Rattle.kernel_model.specs.Events.{task_of}
 use Rattle.kernel_model.specs.Mapping.{maps, mapped, owner}
 use Rattle.kernel_model.specs.State.{state}
 use Rattle.kernel_model.specs.Groups.{volatile, standing, stands_in, is_volatile_state}
-use Rattle.kernel_model.specs.Pages.{left, inactive_pages}
+use Rattle.kernel_model.specs.Pages.{inactive_pages}
 use Rattle.kernel_model.specs.Answers.{answer, refusal}
 use Rattle.kernel_model.specs.Histories.{fits, IsLegal}
 use Rattle.kernel_model.specs.Laws.Kinds.{unmap_entry}
@@ -28,14 +28,14 @@ use Rattle.purge_pick.specs.Picks.{HasTokens}
 use Rattle.purge_pick.proofs.AsManyLemmas.{own-token, stands-somewhere}
 use Rattle.ripen_advance.specs.Queues.{QueueDues, dues_in, with_dues}
 use Rattle.token_list.specs.Dues.{lowered_by}
-use Rattle.volatile_groups.specs.Grouped.{members, queue_of, AreGroups}
+use Rattle.volatile_groups.specs.Grouped.{queue_of, AreGroups}
 use Rattle.vm_object.specs.Objects.{Object, object_at, changed, unmapped_by, is_mapped, owner as owner_in}
 use Rattle.task_ledger.specs.declared.account.Account.{Account}
 use Rattle.task_ledger.specs.Accounts.{account_of, counts_plus, AreAtMost, AreWithin}
 use Rattle.kernel_tables.specs.Values.{TableValues}
 use Rattle.kernel_tables.specs.Charges.{charge, charge_of, framed_of, stored_of, relieved, burdened}
 use Rattle.kernel_tables.specs.Ends.{StandsOver, first_taken}
-use Rattle.kernel_tables.specs.Stands.{Stands, PagesStand, QueuesStand, ObjectsStand, AccountsStand, BandsStand}
+use Rattle.kernel_tables.specs.Stands.{Stands, PagesStand, QueuesStand, ObjectsStand, AccountsStand}
 use Rattle.kernel_tables.proofs.Accepted.{accepted-answer, fitting-names}
 use Rattle.kernel_tables.proofs.Choices.{queue_of-member, same_queue-itself, standing-group, has-tokens}
 use Rattle.kernel_tables.proofs.ObjectCalls.{declared, caller}
@@ -43,7 +43,7 @@ use Rattle.kernel_tables.proofs.ObjectCharges.{owner-declared, length-relieved}
 use Rattle.kernel_tables.proofs.ObjectEntries.{changed-here, spared-bands}
 use Rattle.kernel_tables.proofs.Objects.{owner-stands, mapped-stands, task-declared}
 use Rattle.kernel_tables.proofs.PurgeSteps.{framed-few, stored-few, inactive-ahead, charge-told, owner-account, charge-fits, ahead-emptied}
-use Rattle.kernel_tables.proofs.UnmapSteps.{owner-none, unmap-spares, unmap-mapped, unmap-objects, unmap-accounts, unmap-fits, still-pages, still-queues, still-charge, last-pages, last-inactive, last-left, last-queues, tokens-left}
+use Rattle.kernel_tables.proofs.UnmapSteps.{owner-none, unmap-spares, unmap-objects, unmap-accounts, unmap-fits, still-pages, still-queues, still-charge, last-pages, last-inactive, last-left, last-queues, tokens-left}
 use Rattle.kernel_tables.proofs.Unmapped.{caller-mapped}
 
 same_burden : (w : Option ℕ) (c d : Counts) (accounts : List Account) → ((u : ℕ) → w ≡ Some u → d ≡ c) → burdened w c accounts ≡ burdened w d accounts

@@ -1,8 +1,8 @@
 -- Unmap: one task less maps an object, which may change its owner, or leave it with no mapper.
-use Rattle.std.proofs.Common.{◌≡◌, ℕ, suc, ◌+◌, ◌-◌, ◌<◌, ◌≤◌, List, [], ◌∷◌, length, map, filter, drop, set, get_or, cond, Option, Some, None, refl, sym, ap, ap₂, ◌∙◌, subst, Bool, true, false, not, ◌&&◌, ◌||◌, if◌then◌else◌, inl, inr, nat_eq, nat_lt, zero, zero-le, arith}
+use Rattle.std.proofs.Common.{◌≡◌, ℕ, suc, ◌+◌, ◌-◌, ◌<◌, ◌≤◌, List, [], ◌∷◌, length, map, filter, drop, set, get_or, cond, Some, None, refl, sym, ap, ap₂, ◌∙◌, subst, Bool, true, false, not, ◌&&◌, if◌then◌else◌, inl, inr, nat_eq, zero, zero-le, arith}
 use Rattle.std.specs.Prelude.{fold, slice_index_or}
 use Rattle.std.specs.List.{range_with_len}
-use Rattle.std.proofs.lemmas.Bool.{cases_Bool, false≢true, true≢false}
+use Rattle.std.proofs.lemmas.Bool.{cases_Bool, false≢true}
 use Rattle.std.proofs.lemmas.Bool.Decides.{eqb_tells, nat_tests}
 use Rattle.std.proofs.lemmas.List.{length-set, get_or-set_same, get_or-set_other}
 use Rattle.kern_ids.specs.declared.entries.Entry.{Entry}
@@ -14,16 +14,15 @@ use Rattle.kernel_model.specs.declared.place.Placed.{Placed}
 use Rattle.kernel_model.specs.System.{System}
 use Rattle.kernel_model.specs.Valid.{IsValidBoot}
 use Rattle.kernel_model.specs.Events.{task_of}
-use Rattle.kernel_model.specs.Mapping.{live, maps, mapped, owner, unmaps, tasks_of}
+use Rattle.kernel_model.specs.Mapping.{maps, mapped, owner, unmaps, tasks_of}
 use Rattle.kernel_model.specs.State.{state}
-use Rattle.kernel_model.specs.Pages.{place, placed, pages_of, pages_in, is_inactive, is_stored, entered, left, inactive_pages, touched_since, written}
-use Rattle.kernel_model.specs.Groups.{volatile, standing, stands_in, objects_of, is_volatile_state}
-use Rattle.kernel_model.specs.Deadlines.{Deadlines, deadlines, of_queue, without_first, after_unmappings}
-use Rattle.kernel_model.specs.Laws.Kinds.{unmap_entry, runs_for}
+use Rattle.kernel_model.specs.Pages.{place, placed, pages_in, is_inactive, is_stored, entered, left, inactive_pages, touched_since, written}
+use Rattle.kernel_model.specs.Groups.{volatile, standing, stands_in, is_volatile_state}
+use Rattle.kernel_model.specs.Deadlines.{Deadlines, deadlines, of_queue, without_first}
+use Rattle.kernel_model.specs.Laws.Kinds.{unmap_entry}
 use Rattle.kernel_model.specs.Laws.Frames.{is_in, pages_at}
 use Rattle.kernel_model.specs.Laws.Queues.{KeepsGroup}
 use Rattle.kernel_model.proofs.Laws.Agree.{count_by-agree}
-use Rattle.kernel_model.proofs.Laws.Bounds.{left-rises}
 use Rattle.kernel_model.proofs.Laws.Kept.{mapped-kept, owner-kept, unmaps-kept, placed-kept, touched_since-kept, written-kept, entered-kept, standing-kept, volatile-kept, stands_in-kept, deadlines-kept, counted-kept, left-kept}
 use Rattle.kernel_model.proofs.Laws.Kinds.{maps-unmap, placed-unmapped, deadlines-unmapped}
 use Rattle.kernel_model.proofs.Laws.Mapping.{unmaps-is, owner-is}
@@ -45,7 +44,6 @@ use Rattle.vm_object.specs.TaskSets.{has_task}
 use Rattle.vm_object.specs.Objects.{Object, object_at, changed, unmapped_by}
 use Rattle.task_ledger.specs.declared.account.Account.{Account}
 use Rattle.kernel_tables.specs.Charges.{charge, charge_of, relieved, burdened}
-use Rattle.kernel_tables.specs.Ends.{first_taken}
 use Rattle.kernel_tables.specs.Stands.{PagesStand, QueuesStand, ObjectsStand, AccountsStand, HasGroups}
 use Rattle.kernel_tables.proofs.Dropped.{pages-dropped, inactive-dropped}
 use Rattle.kernel_tables.proofs.Emptied.{inactive-entered}

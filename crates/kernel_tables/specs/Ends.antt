@@ -1,5 +1,5 @@
 -- The ends of mappings and of tasks.
-use Rattle.std.specs.Prelude.{◌≡◌, ℕ, zero, suc, List, ◌∷◌, length, drop, Bool, false, not, ◌&&◌, Option, Some, None, nat_eq, if◌then◌else◌, find}
+use Rattle.std.specs.Prelude.{◌≡◌, ℕ, zero, suc, List, ◌∷◌, length, drop, false, not, ◌&&◌, Option, Some, None, nat_eq, if◌then◌else◌, find}
 use Rattle.std.specs.Option.{unwrap_or}
 use Rattle.std.specs.List.{range_with_len}
 use Rattle.kern_ids.specs.declared.entries.Entry.{Entry}

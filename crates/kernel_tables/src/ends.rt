@@ -131,7 +131,6 @@ impl Parts {
     fn leave(&mut self, o: ObjId, t: TaskId)
         ghost past: { List Entry }
         requires over { StandsOver (values self.old) past }
-        requires by { task_by self.old.boot (ends.thread_of self.old.boot t) ≡ Some t }
         requires object { o < length self.old.boot.objects }
         requires maps { maps self.old.boot past o t ≡ true }
         ensures over { (who : ℕ) → task_by self.old.boot who ≡ Some t → StandsOver (values self.new) (unmap_entry who o ∷ past) }
@@ -163,7 +162,6 @@ impl Parts {
         ensures ages { self.new.tasks.ages ≡ self.old.tasks.ages }
         ensures wishes { self.new.tasks.wishes.items ≡ self.old.tasks.wishes.items }
     {
-        self.boot.valid();
         if self.objects.table.maps(o, t) {
             self.leave(o, t);
         }
@@ -242,7 +240,6 @@ impl Parts {
         ensures stands { Stands (values self.new) (entry_of who Jetsam result ∷ past) }
         ensures boot { self.new.boot ≡ self.old.boot }
     {
-        self.boot.valid();
         self.end(t);
         Reply::Killed(t, cause)
     }

@@ -1,6 +1,5 @@
 use Rattle.std.proofs.Common.{sym, ◌∙◌}
 use Rattle.kernel_model.specs.Laws.Kinds.{exit_entry}
-use Rattle.kernel_tables.specs.Values.{values}
 use Rattle.kernel_tables.proofs.EndEntries.{exit-ends, exit-reply}
 use Rattle.kernel_tables.proofs.Objects.{task-declared}
 use Rattle.kernel_tables.proofs.parts.Parts.exit.Goals as goal

@@ -1,6 +1,5 @@
 use Rattle.std.proofs.Common.{sym}
 use Rattle.kernel_model.specs.Laws.Kinds.{killed_entry}
-use Rattle.kernel_tables.specs.Values.{values}
 use Rattle.kernel_tables.proofs.EndEntries.{kill-ends, live-declared}
 use Rattle.kernel_tables.proofs.parts.Parts.kill.Goals as goal
 

@@ -8,7 +8,7 @@ use Rattle.kernel_tables.proofs.parts.Parts.leave_if.Goals as goal
 pub leave-requires : goal.leave-requires
 leave-requires g c =
     let own = sym (c.requires.0.objects.mappers c.args.o c.args.t c.requires.1) ∙ sym c.maps.ensures ∙ c.if-maps.true in
-    (c.requires.0, (mapper-thread c.args.self.now.boot (parted c.args.self.now.boot g.past c.args.t c.args.o) c.args.o c.args.t own, (c.requires.1, own)))
+    (c.requires.0, (c.requires.1, own))
 
 pub returns-then-maps-clause-over : goal.returns-then-maps-clause-over
 returns-then-maps-clause-over g c =

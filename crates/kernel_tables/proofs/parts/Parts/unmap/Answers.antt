@@ -1,6 +1,5 @@
 use Rattle.std.proofs.Common.{sym, ◌∙◌}
 use Rattle.kernel_tables.specs.Values.{values}
-use Rattle.kernel_tables.proofs.Threads.{thread-of}
 use Rattle.kernel_tables.proofs.UnmapCall.{unmap-inside, unmap-own, unmap-reply, unmap-done, stands-over}
 use Rattle.kernel_tables.proofs.parts.Parts.unmap.Goals as goal
 
@@ -9,11 +8,8 @@ leave-requires g c =
     let by = sym c.task_of.ensures ∙ c.unwrap-t.ensures in (
       stands-over (values c.args.self.now) g.past c.valid.ensures c.requires.0,
       (
-        thread-of c.args.self.now.boot c.args.who c.unwrap-t.result by,
-        (
-          unmap-inside (values c.args.self.now) g.past c.args.who c.args.o c.unwrap-t.result c.valid.ensures c.requires.0 c.requires.1.0 c.requires.1.1 by,
-          unmap-own (values c.args.self.now) g.past c.args.who c.args.o c.unwrap-t.result c.valid.ensures c.requires.0 c.requires.1.0 c.requires.1.1 by,
-        ),
+        unmap-inside (values c.args.self.now) g.past c.args.who c.args.o c.unwrap-t.result c.valid.ensures c.requires.0 c.requires.1.0 c.requires.1.1 by,
+        unmap-own (values c.args.self.now) g.past c.args.who c.args.o c.unwrap-t.result c.valid.ensures c.requires.0 c.requires.1.0 c.requires.1.1 by,
       ),
     )
 
