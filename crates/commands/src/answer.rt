@@ -9,10 +9,12 @@ use crate::messages::{bad_line, bad_words, read_fault, too_long};
 use edge::ends::{Failed, Sink};
 use edge::pieces::Both;
 use edge::writing::{WriteBuffer, write_pieces, write_whole};
+use history_reports::Report;
 use history_text::HistoryPieces;
 use kern_ids::entries::EntryList;
 use kern_ids::faults::Why;
 use kernel_model::scenario::Scenario;
+use report_tables::summary;
 use scenario_text::ScenarioPieces;
 
 /// What the program answers.
@@ -22,6 +24,10 @@ pub enum Answer {
     Run(Scenario, EntryList),
     /// A scenario.
     Rewritten(Scenario),
+    /// The counts of a history.
+    Counted(EntryList),
+    /// What is told of a history.
+    Reported(Report),
     /// The words are those of no command.
     BadWords,
     /// A line of the input is wrong.
@@ -38,7 +44,8 @@ impl Answer {
         ensures { result ≡ (due_of self.now).0 }
     {
         match self {
-            Answer::Run(..) | Answer::Rewritten(_) => 0,
+            Answer::Run(..) | Answer::Rewritten(_) | Answer::Counted(_) => 0,
+            Answer::Reported(report) => report.status(),
             Answer::BadWords => 2,
             Answer::BadLine(..) => 3,
             Answer::ReadFault => 4,
@@ -64,6 +71,8 @@ impl Answer {
             Answer::Rewritten(scenario) => {
                 write_pieces(sink, ScenarioPieces::new(scenario), buffer)
             }
+            Answer::Counted(history) => write_whole(sink, summary(history).as_slice()),
+            Answer::Reported(report) => write_whole(sink, report.text()),
             Answer::BadWords => write_whole(sink, bad_words().as_slice()),
             Answer::BadLine(number, why) => write_whole(sink, bad_line(*number, *why).as_slice()),
             Answer::ReadFault => write_whole(sink, read_fault().as_slice()),

@@ -14,6 +14,10 @@ const NEW: &[u8] =
 const RUN: &[u8] =
     b"jetlab 1\nsystem frames 8 target 8 inactive 3 store 4 critical 0 delay 3\ntask 0 band 5 active 65536 soft inactive 65536 soft\nobject 0 task 0 pages 1\nthread 0 task 0\nmap 0\nwrite 0 0 616263\nread 0 0 3\norder 0 0 0\nend\nhistory\n0 map 0 = mapped\n0 write 0 0 616263 = wrote\n0 read 0 0 3 = bytes 616263\ndone 3\n";
 
+// The scenario of seed 7 and two turns.
+const MADE: &[u8] =
+    b"jetlab 1\nsystem frames 64 target 16 inactive 16 store 64 critical 1 delay 4\ntask 0 band 0 active 24 soft inactive 12 soft\ntask 1 band 5 active 24 soft inactive 12 soft\ntask 2 band 10 active 65536 soft inactive 65536 soft internal\nobject 0 task 0 pages 1\nobject 1 task 1 pages 2\nobject 2 task 2 pages 3\nobject 3 task 0 pages 4\nobject 4 task 1 pages 1\nobject 5 task 2 pages 2\nobject 6 task 0 pages 3\nobject 7 task 1 pages 4\nobject 8 task 2 pages 1\nobject 9 task 0 pages 2\nobject 10 task 1 pages 3\nobject 11 task 2 pages 4\nobject 12 task 0 pages 1\nobject 13 task 1 pages 2\nobject 14 task 2 pages 3\nobject 15 task 0 pages 4\nobject 16 task 1 pages 1\nobject 17 task 2 pages 2\nobject 18 task 0 pages 3\nobject 19 task 1 pages 4\nobject 20 task 2 pages 1\nobject 21 task 0 pages 2\nobject 22 task 1 pages 3\nobject 23 task 2 pages 4\nobject 24 task 0 pages 1\nobject 25 task 1 pages 2\nobject 26 task 2 pages 3\nobject 27 task 0 pages 4\nobject 28 task 1 pages 1\nobject 29 task 2 pages 2\nobject 30 task 0 pages 3\nobject 31 task 1 pages 4\nobject 32 task 2 pages 1\nobject 33 task 0 pages 2\nobject 34 task 1 pages 3\nobject 35 task 2 pages 4\nobject 36 task 0 pages 1\nobject 37 task 1 pages 2\nobject 38 task 2 pages 3\nobject 39 task 0 pages 4\nthread 0 task 0\nthread 1 task 1\nthread 2 task 2\nwrite 17 5120 00000001\nthread 3 task 2\nthread 4 kernel\ntick\nthread 5 kernel\norder 4 2\nend\n";
+
 const FAULT: &[u8] = b"jetlab: read fault\n";
 
 // A call of the program over memory, with so many bytes a read and a write.
@@ -101,6 +105,57 @@ fn failures(rt: HostRuntime) -> Result<(), Fail> {
     both.writes = &[1];
     both.status = 5;
     run(&rt, &both)
+}
+
+// The first read would fail, and is not made.
+#[test]
+fn made(rt: HostRuntime) -> Result<(), Fail> {
+    for (words, text, front) in [
+        (&["make", "7", "2"] as &[&str], MADE, b"jetlab "),
+        (
+            &["trial", "7", "0"],
+            b"entries 0 refused 0 purged 0 killed 0 freed 0 compressed 0\n",
+            b"entries",
+        ),
+        (
+            &["trial", "7", "2"],
+            b"entries 2 refused 1 purged 0 killed 0 freed 0 compressed 0\n",
+            b"entries",
+        ),
+    ] {
+        let mut case = good(words, b"", text);
+        case.reads = &[0];
+        run(&rt, &case)?;
+        case.writes = &[1];
+        case.status = 5;
+        case.text = front;
+        run(&rt, &case)?;
+    }
+    Ok(())
+}
+
+#[test]
+fn numbers(rt: HostRuntime) -> Result<(), Fail> {
+    for words in [
+        &["make"] as &[&str],
+        &["make", "7"],
+        &["make", "7", "2", "2"],
+        &["make", "07", "2"],
+        &["make", "7", ""],
+        &["make", "7", "2 "],
+        &["make", "7 2", "2"],
+        &["make", "2147483648", "0"],
+        &["make", "7", "200001"],
+        &["trial", "18446744073709551623", "0"],
+        &["trial", "-1", "0"],
+        &["serial", "7", "2"],
+    ] {
+        let mut case = good(words, OLD, b"jetlab: bad words\n");
+        case.reads = &[0];
+        case.status = 2;
+        run(&rt, &case)?;
+    }
+    Ok(())
 }
 
 #[test]

@@ -1,9 +1,9 @@
 //! The call that the program makes.
 
-ghost use Rattle.std.specs.Prelude.{◌≡◌, ◌≢◌, ◌≤◌, ◌⊎◌, ◌∷◌, [], None, Contains};
+ghost use Rattle.std.specs.Prelude.{◌≡◌, ◌≢◌, ◌≤◌, ◌⊎◌, ◌∷◌, [], false, Contains};
 ghost use Rattle.std.specs.Io.KnownBytes.{Appends, Keeps};
 ghost use Rattle.edge.specs.Ends.{Rose};
-ghost use Rattle.commands.specs.Commands.{command_of};
+ghost use Rattle.commands.specs.Commands.{asks_reading};
 ghost use Rattle.commands.specs.Messages.{read_fault};
 ghost use Rattle.commands.specs.Calls.{WritesOutcome, WritesFront, IsReadFault, IsAccepted};
 
@@ -14,10 +14,10 @@ use edge::writing::WriteBuffer;
 use kern_ids::entries::NoMemory;
 use std::alloc::Global;
 
-/// Performs the command that the words ask for: reads the source to its end, and writes what is due. The
-/// result is the exit status: 0 where the command was performed, 2 for bad words, 3 for bad input, 4 for a
-/// failed read, 5 for a failed write, 7 for an input that is too long, and 9 for want of memory. All memory
-/// is taken before the first byte is written.
+/// Performs the command that the words ask for: reads the source to its end, where the command reads, and
+/// writes what is due. The result is the exit status: 0 where the command was performed, 2 for bad words, 3
+/// for bad input, 4 for a failed read, 5 for a failed write, 6 for a history that is not legal and whole, 7 for
+/// an input that is too long, 8 for the number of an entry that there is not, and 9 for want of memory. All memory is taken before the first byte is written.
 pub fn serial_top<S: Source, K: Sink>(
     alloc: Global,
     words: &Words,
@@ -37,10 +37,10 @@ pub fn serial_top<S: Source, K: Sink>(
     ensures memory { result ≡ 9 → Keeps (K.held sink.old) (K.held sink.new) }
 
     // There is no other status.
-    ensures statuses { Contains (0 ∷ 2 ∷ 3 ∷ 4 ∷ 5 ∷ 7 ∷ 9 ∷ []) result }
+    ensures statuses { Contains (0 ∷ 2 ∷ 3 ∷ 4 ∷ 5 ∷ 6 ∷ 7 ∷ 8 ∷ 9 ∷ []) result }
 
-    // With bad words the source is as before.
-    ensures unread { command_of words.now ≡ None → Keeps (S.left source.old) (S.left source.new) × (S.fault_count source.new ≡ S.fault_count source.old) }
+    // With bad words, and for a command that reads nothing, the source is as before.
+    ensures unread { asks_reading words.now ≡ false → Keeps (S.left source.old) (S.left source.new) × (S.fault_count source.new ≡ S.fault_count source.old) }
 
     // A good input is answered by 0, but for want of memory, where no read and no write fails.
     ensures complete { IsAccepted words.now (S.left source.old) → ¬ Rose (S.fault_count source.old) (S.fault_count source.new) → ¬ Rose (K.fault_count sink.old) (K.fault_count sink.new) → (result ≡ 0) ⊎ (result ≡ 9) }

@@ -15,11 +15,10 @@ use Rattle.history_reading.specs.Histories.{history_of, line_says}
 use Rattle.history_reading.proofs.EntryLaws.{first_line}
 use Rattle.history_feed.specs.declared.expected.Expected.{Expected}
 use Rattle.history_feed.specs.declared.expected.Expected.TheVariants as next
-use Rattle.history_feed.specs.declared.expected.Said.{Said}
 use Rattle.history_feed.specs.declared.feed.HistoryFeed.{HistoryFeed}
 use Rattle.history_feed.specs.Lines.{ended_of, rest_of, line_end}
 use Rattle.history_feed.specs.Kept.{kept_of}
-use Rattle.history_feed.specs.Left.{Fault, Place, said_entry, said_of, moved, over, one_byte, left_by, rest_behind, whole_of, whole_at}
+use Rattle.history_feed.specs.Left.{Fault, Place, Said, said_entry, said_of, moved, over, one_byte, left_by, rest_behind, whole_of, whole_at}
 use Rattle.history_feed.specs.Feeds.{Keeps, KeepsLeft, IsEnded, StandsFor, Gives, IsFed, IsTextOf, entry_ended, given_by, taken_until, taken_of, count_of}
 use Rattle.history_feed.proofs.Splits.{first-part}
 use Rattle.history_feed.proofs.LeftLaws.{place, fault, begun, more-rest, more-place, line-rest, line-place, left-fault}
@@ -127,9 +126,20 @@ ended-ok f given p r said is sound line entries expected kept gave = subst (IsEn
 pub ended-bad : (f : HistoryFeed) (given : Option Entry) (p : Place) (r : Result Said Why) (d : Why) → r ≡ Err d → f.fault ≡ Some (p.line, d) → given ≡ None → IsEnded f given p r
 ended-bad f given p r d is some gave = subst (IsEnded f given p) (sym is) (record { stands = some; entry = gave })
 
--- what is said of what is kept is what is said of the line
-pub said-same : (x y : Expected) (n m : ℕ) (line : List ℕ) (r : Result Said Why) → x ≡ y → n ≡ m → said_of x n line ≡ r → said_of y m line ≡ r
-said-same x y n m line r e1 e2 is = sym (ap (λ (t : Expected). said_of t n line) e1 ∙ ap (λ (t : ℕ). said_of y t line) e2) ∙ is
+abbrev opening_by : Bool → Result Said Why
+opening_by b = cond b (Ok (record { expected = next.Entries; entry = None })) (Err why.Word)
+
+-- what an entry's line, the closing line and a wrong line among the entries say
+pub entry-says : (count : ℕ) (line : List ℕ) (r : Result (Option Entry) Why) → line_says count line ≡ r → said_of next.Entries count line ≡ said_entry r
+entry-says count line r is = ap said_entry is
+
+-- what the opening line says
+pub opening-says : (b : Bool) (count : ℕ) (line : List ℕ) → bytes_eq line (codes "history") ≡ b → said_of next.Opening count line ≡ cond b (Ok (record { expected = next.Entries; entry = None })) (Err why.Word)
+opening-says b count line is = ap (λ (t : Bool). opening_by t) is
+
+-- what is said by what is kept is what is said of the line
+pub said-at : (f : HistoryFeed) (p : Place) (rest line : List ℕ) (x : Expected) (r : Result Said Why) → Keeps f p rest → f.expected ≡ x → said_of x f.entries line ≡ r → said_of p.next (length p.entries) line ≡ r
+said-at f p rest line x r k is e = ap (λ (t : Expected). said_of t (length p.entries) line) (sym k.expected ∙ is) ∙ ap (λ (t : ℕ). said_of x t line) (sym k.entries) ∙ e
 
 -- ---- a line goes on
 

@@ -15,7 +15,7 @@ use Rattle.history_reading.specs.Entries.{entry_of, HasText}
 use Rattle.history_reading.specs.Histories.{closing_words, one_more, said_by, line_says}
 use Rattle.history_reading.proofs.EntryLaws.{entry_takes}
 
-abbrev said : Option Entry → Result (Option Entry) Why
+abbrev pub said : Option Entry → Result (Option Entry) Why
 said x = Ok x
 
 abbrev read : Entry → Result Entry Why

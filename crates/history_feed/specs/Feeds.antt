@@ -5,11 +5,10 @@ use Rattle.kern_ids.specs.declared.entries.Entry.{Entry}
 use Rattle.line_text.specs.Cut.{lines_of}
 use Rattle.history_text.specs.Entries.{entry_text}
 use Rattle.history_reading.specs.Entries.{HasText}
-use Rattle.history_feed.specs.declared.expected.Said.{Said}
 use Rattle.history_feed.specs.declared.feed.HistoryFeed.{HistoryFeed}
 use Rattle.history_feed.specs.Lines.{line_end}
 use Rattle.history_feed.specs.Kept.{kept_of}
-use Rattle.history_feed.specs.Left.{Fault, Place, said_of, moved, left_by, rest_behind}
+use Rattle.history_feed.specs.Left.{Fault, Place, Said, said_of, moved, left_by, rest_behind}
 
 -- the number of the line that the feed began with
 abbrev pub first_line_of : HistoryFeed → ℕ

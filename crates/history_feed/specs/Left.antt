@@ -8,7 +8,6 @@ use Rattle.line_text.specs.Cut.{lines_of}
 use Rattle.history_reading.specs.Histories.{line_says}
 use Rattle.history_feed.specs.declared.expected.Expected.{Expected}
 use Rattle.history_feed.specs.declared.expected.Expected.TheVariants as next
-use Rattle.history_feed.specs.declared.expected.Said.{Said}
 use Rattle.history_feed.specs.Lines.{ended_of, rest_of}
 
 -- a line and why it is refused
@@ -20,6 +19,11 @@ pub record Place : Type 0 where
   pub entries : List Entry
   pub line : ℕ
   pub next : Expected
+
+-- what a line that is in its place says: what is expected behind it, and the entry that it is, if it is one
+pub record Said : Type 0 where
+  pub expected : Expected
+  pub entry : Option Entry
 
 -- a line among the entries
 abbrev pub said_entry : Result (Option Entry) Why → Result Said Why

@@ -1,7 +1,5 @@
 //! What may come next in a history's text.
 
-use kern_ids::entries::Entry;
-
 /// What the next line has to be.
 #[derive(Clone, Copy, PartialEq, Eq, Debug)]
 pub enum Expected {
@@ -11,11 +9,4 @@ pub enum Expected {
     Entries,
     /// Nothing: the closing line was read.
     Nothing,
-}
-
-/// What a line that is in its place says: what is expected behind it, and the entry that it is, if it is one.
-#[derive(Drop)]
-pub struct Said {
-    pub expected: Expected,
-    pub entry: Option<Entry>,
 }

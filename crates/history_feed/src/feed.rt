@@ -1,6 +1,6 @@
 //! A reader of a history's text that is given in pieces.
 
-ghost use Rattle.std.specs.Prelude.{◌≡◌, ◌<◌, ◌≤◌, ◌+◌, ◌++◌, ◌^◌, ℕ, List, [], length, take, None, IfOk, IfSome, option_to_list};
+ghost use Rattle.std.specs.Prelude.{◌≡◌, ◌<◌, ◌≤◌, ◌+◌, ◌++◌, ◌^◌, ℕ, List, [], length, take, None, IfSome};
 ghost use Rattle.line_text.specs.Cut.{lines_of};
 ghost use Rattle.history_reading.specs.Entries.{HasText};
 ghost use Rattle.history_reading.specs.Histories.{history_of};
@@ -8,7 +8,7 @@ ghost use Rattle.history_feed.specs.Kept.{kept_of};
 ghost use Rattle.history_feed.specs.Left.{Place, said_of, left_by, rest_behind, one_byte, whole_of};
 ghost use Rattle.history_feed.specs.Feeds.{first_line_of, Keeps, KeepsLeft, IsEnded, StandsFor, HasRoom, taken_of, entry_ended, IsTextOf, Gives, IsFed, count_of};
 
-use crate::expected::{Expected, Said};
+use crate::expected::Expected;
 use crate::kept_line::KeptLine;
 use kern_ids::entries::Entry;
 use kern_ids::faults::Why;
@@ -33,49 +33,6 @@ pub struct HistoryFeed {
     rest: KeptLine,
 }
 
-// What a line says where that is expected, behind so many entries.
-fn line_says(expected: Expected, count: u32, line: &KeptLine) -> Result<Said, Why>
-    ensures value { (text : List ℕ) → line.now ≡ kept_of text → said_of expected count text ≡ result }
-    ensures room { IfOk result (λ said. IfSome said.entry (λ _. count < 200000)) }
-    ensures text { IfOk result (λ said. IfSome said.entry HasText) }
-{
-    match expected {
-        Expected::Opening => {
-            if line.is_opening() {
-                Ok(Said {
-                    expected: Expected::Entries,
-                    entry: None,
-                })
-            } else {
-                Err(Why::Word)
-            }
-        }
-        Expected::Entries => match line.says(count) {
-            Ok(Some(entry)) => Ok(Said {
-                expected: Expected::Entries,
-                entry: Some(entry),
-            }),
-            Ok(None) => Ok(Said {
-                expected: Expected::Nothing,
-                entry: None,
-            }),
-            Err(why) => Err(why),
-        },
-        Expected::Nothing => Err(Why::AfterEnd),
-    }
-}
-
-// One more where there is an entry.
-fn count_with(count: u32, entry: &Option<Entry>) -> u32
-    requires { IfSome entry.now (λ _. count < 200000) }
-    ensures { result ≡ count + length (option_to_list entry.now) }
-{
-    match entry {
-        Some(_) => count + 1,
-        None => count,
-    }
-}
-
 impl HistoryFeed {
     /// Of no bytes; the first line will have the number `first_line`, at most 2^31.
     pub fn new(first_line: u32) -> HistoryFeed
@@ -97,6 +54,20 @@ impl HistoryFeed {
         }
     }
 
+    // The line behind the one that is kept begins.
+    fn begin_line(&mut self, expected: Expected)
+        requires { self.old.line + 1 < 2 ^ 32 }
+        ensures same { (self.new.first ≡ self.old.first) × (self.new.entries ≡ self.old.entries) × (self.new.fault ≡ self.old.fault) }
+        ensures line { self.new.line ≡ self.old.line + 1 }
+        ensures expected { self.new.expected ≡ expected }
+        ensures rest { self.new.rest ≡ kept_of [] }
+        ensures empty { self.new.rest.len ≡ 0 }
+    {
+        self.line += 1;
+        self.expected = expected;
+        self.rest.clear();
+    }
+
     // The line that is kept is ended: its entry, if it is one in its place.
     fn end_line(&mut self) -> Option<Entry>
         requires { self.old.line + 1 < 2 ^ 32 }
@@ -106,16 +77,32 @@ impl HistoryFeed {
         ensures line { self.new.line ≤ self.old.line + 1 }
         ensures empty { self.new.fault ≡ None → self.new.rest.len ≡ 0 }
     {
-        match line_says(self.expected, self.entries, &self.rest) {
-            Ok(said) => {
-                self.line += 1;
-                self.entries = count_with(self.entries, &said.entry);
-                self.expected = said.expected;
-                self.rest.clear();
-                said.entry
+        match self.expected {
+            Expected::Opening => {
+                if !self.rest.is_opening() {
+                    self.fault = Some((self.line, Why::Word));
+                    return None;
+                }
+                self.begin_line(Expected::Entries);
+                None
             }
-            Err(why) => {
-                self.fault = Some((self.line, why));
+            Expected::Entries => match self.rest.says(self.entries) {
+                Ok(Some(entry)) => {
+                    self.entries += 1;
+                    self.begin_line(Expected::Entries);
+                    Some(entry)
+                }
+                Ok(None) => {
+                    self.begin_line(Expected::Nothing);
+                    None
+                }
+                Err(why) => {
+                    self.fault = Some((self.line, why));
+                    None
+                }
+            },
+            Expected::Nothing => {
+                self.fault = Some((self.line, Why::AfterEnd));
                 None
             }
         }

@@ -2,7 +2,7 @@
 use Rattle.std.proofs.Common.{◌≡◌, ℕ, suc, ◌+◌, ◌-◌, ◌*◌, ◌/◌, ◌<◌, ◌≤◌, List, [], ◌∷◌, length, map, not, if◌then◌else◌, get_or, Option, Some, None, nat_eq, nat_lt, count_by, refl, sym, ap, ap₂, ◌∙◌, subst, Bool, true, false, ◌&&◌, ◌||◌, inl, inr, arith, zero-le}
 use Rattle.std.specs.Option.{option_map_or}
 use Rattle.std.specs.List.{range_with_len}
-use Rattle.std.proofs.lemmas.Bool.{cases_Bool, cases_lt, true≢false, false≢true, eq-eqb, lt-ltb}
+use Rattle.std.proofs.lemmas.Bool.{cases_Bool, cases_lt, true≢false, false≢true, eq-eqb, lt-ltb, or_right}
 use Rattle.std.proofs.lemmas.Bool.Decides.{nat_tests}
 use Rattle.std.proofs.lemmas.List.{length-map}
 use Rattle.kern_ids.specs.declared.entries.Entry.{Entry}
@@ -43,17 +43,10 @@ use Rattle.kernel_tables.proofs.PageMoves.{PagesHold, stamped, is_absent, placed
 use Rattle.kernel_tables.proofs.PageCharges.{ChargesHold, charges-stand, charges-agree, page-fits, has-counted}
 use Rattle.kernel_tables.proofs.OnlyPages.{OnlyPages, none-emptied, none-unmapped, idle-placed, idle-touched, same-deadlines, charged-stand, only-pages-stand}
 use Rattle.kernel_tables.proofs.Recharges.{page-object, page-inside, recharge-can, recharge-does}
-use Rattle.kernel_tables.proofs.Touches.{faulted_at, marked_at, put_at, same_itself, same-out, faulted-other, faulted-here, faulted-stays, faulted-place, hold-touched, in_frames, IsTouched, is-touched, reaches-is, two-counted, touched-twice, marked-twice}
+use Rattle.kernel_tables.proofs.Touches.{faulted_at, marked_at, put_at, same-out, faulted-other, faulted-here, faulted-stays, faulted-place, hold-touched, in_frames, IsTouched, is-touched, reaches-is, two-counted, touched-twice, marked-twice}
 
 pair_lt-page : (n a b : ℕ) → a < b → pair_lt (n, a) (n, b) ≡ true
 pair_lt-page n a b l = grind (arith, nat_tests)
-
-nat_eq-itself : (n : ℕ) → nat_eq n n ≡ true
-nat_eq-itself n = grind (arith, nat_tests)
-
-or_true : (b : Bool) → (b || true) ≡ true
-or_true true = refl
-or_true false = refl
 
 and_or : (a x y : Bool) → (a && (x || y)) ≡ ((a && x) || (a && y))
 and_or true x y = refl
@@ -124,7 +117,7 @@ module _ (boot : System) (past : List Entry) (o off len : ℕ) (v : IsValidBoot 
     | inr above ↦ absurd (
         let s = r.some in
         let same : (off + len - 1) / 4096 ≡ off / 4096 = omega arith in
-        true≢false (sym (ap₂ (λ a b. a && b) (nat_eq-itself o) (eq-eqb ((off + len - 1) / 4096) (off / 4096) same)) ∙ apart))
+        true≢false (sym (ap₂ (λ a b. a && b) (eq-eqb o o refl) (eq-eqb ((off + len - 1) / 4096) (off / 4096) same)) ∙ apart))
   ]
 
   -- Over tables that stand for the history.
@@ -214,10 +207,10 @@ module _ (boot : System) (past : List Entry) (o off len : ℕ) (v : IsValidBoot 
       last-listed = let b = last-below in let l : (off + len - 1) / 4096 < 0 + pages_in boot o = omega arith in range-has 0 (pages_in boot o) ((off + len - 1) / 4096) zero-le l
 
       needs-first : needs (off / 4096) ≡ is_out (f0 (first_page o off)).place
-      needs-first = ap (λ b. b && is_out (f0 (first_page o off)).place) (reaches-is off len (off / 4096) r.some r.few ∙ ap (λ b. b || nat_eq ((off + len - 1) / 4096) (off / 4096)) (nat_eq-itself (off / 4096)))
+      needs-first = ap (λ b. b && is_out (f0 (first_page o off)).place) (reaches-is off len (off / 4096) r.some r.few ∙ ap (λ b. b || nat_eq ((off + len - 1) / 4096) (off / 4096)) (eq-eqb (off / 4096) (off / 4096) refl))
 
       needs-last : needs ((off + len - 1) / 4096) ≡ is_out (f0 (last_page o off len)).place
-      needs-last = ap (λ b. b && is_out (f0 (last_page o off len)).place) (reaches-is off len ((off + len - 1) / 4096) r.some r.few ∙ ap (λ b. nat_eq (off / 4096) ((off + len - 1) / 4096) || b) (nat_eq-itself ((off + len - 1) / 4096)) ∙ or_true (nat_eq (off / 4096) ((off + len - 1) / 4096)))
+      needs-last = ap (λ b. b && is_out (f0 (last_page o off len)).place) (reaches-is off len ((off + len - 1) / 4096) r.some r.few ∙ ap (λ b. nat_eq (off / 4096) ((off + len - 1) / 4096) || b) (eq-eqb ((off + len - 1) / 4096) ((off + len - 1) / 4096) refl) ∙ or_right (nat_eq (off / 4096) ((off + len - 1) / 4096)) true refl)
 
       free-fact : free_in pages ≡ free boot past
       free-fact = ap₂ (λ x y. x - y) stand.frames (frames-taken boot past pages m stand) ∙ sym (free-is boot past)
@@ -238,7 +231,7 @@ module _ (boot : System) (past : List Entry) (o off len : ℕ) (v : IsValidBoot 
       -- where the last page lacks a frame after the first was touched, it is another one, and it did before
       still_out : is_out (f1 (last_page o off len)).place ≡ true → (is_out (f0 (last_page o off len)).place ≡ true) × ((off / 4096 ≡ (off + len - 1) / 4096 → ⊥))
       still_out out = elim (cases_Bool (same_page (first_page o off) (last_page o off len))) [
-        | inr far ↦ (ap (λ (x : Placed). is_out x.place) (sym (faulted-other (length past) (first_page o off) f0 (last_page o off len) far)) ∙ out, λ same. true≢false (sym (ap₂ (λ a b. a && b) (nat_eq-itself o) (eq-eqb (off / 4096) ((off + len - 1) / 4096) same)) ∙ far))
+        | inr far ↦ (ap (λ (x : Placed). is_out x.place) (sym (faulted-other (length past) (first_page o off) f0 (last_page o off len) far)) ∙ out, λ same. true≢false (sym (ap₂ (λ a b. a && b) (eq-eqb o o refl) (eq-eqb (off / 4096) ((off + len - 1) / 4096) same)) ∙ far))
         | inl here ↦ absurd (true≢false (sym out ∙ ap (λ b. is_out (if b && is_out (f0 (last_page o off len)).place then put_at Active (length past) else f0 (last_page o off len)).place) here ∙ never_out (f0 (last_page o off len)).place (f0 (last_page o off len)).number (length past)))
       ]
 

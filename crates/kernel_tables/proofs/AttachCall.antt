@@ -1,9 +1,8 @@
 -- Attach: one task more maps an object, which may change its owner.
 use Rattle.std.proofs.Common.{◌≡◌, ℕ, ◌-◌, ◌<◌, List, ◌∷◌, length, Option, Some, None, refl, sym, ap, ap₂, ◌∙◌, subst, Bool, true, false, ◌&&◌, ◌||◌, inl, inr, nat_eq, arith}
-use Rattle.std.proofs.lemmas.Bool.{cases_Bool, false≢true, true≢false}
-use Rattle.std.proofs.lemmas.Bool.Decides.{eqb_tells, nat_tests}
+use Rattle.std.proofs.lemmas.Bool.Decides.{eqb_tells}
 use Rattle.std.proofs.lemmas.List.{length-set}
-use Rattle.std.specs.Prelude.{is_some, IsTrue}
+use Rattle.std.specs.Prelude.{IsTrue}
 use Rattle.kern_ids.specs.declared.entries.Entry.{Entry}
 use Rattle.kern_ids.specs.declared.ids.PageId.{PageId}
 use Rattle.kernel_model.specs.declared.place.Placed.{Placed}
@@ -12,11 +11,9 @@ use Rattle.kernel_model.specs.Valid.{IsValidBoot}
 use Rattle.kernel_model.specs.Events.{task_of}
 use Rattle.kernel_model.specs.Mapping.{live, maps, mapped, owner, unmaps}
 use Rattle.kernel_model.specs.State.{state}
-use Rattle.kernel_model.specs.Contents.{empties}
 use Rattle.kernel_model.specs.Pages.{place, placed, pages_of, is_inactive, entered, left, inactive_pages, touched_since, written}
-use Rattle.kernel_model.specs.Groups.{volatile, standing}
 use Rattle.kernel_model.specs.Histories.{IsLegal}
-use Rattle.kernel_model.specs.Laws.Kinds.{attach_entry, runs_for}
+use Rattle.kernel_model.specs.Laws.Kinds.{attach_entry}
 use Rattle.kernel_model.proofs.Laws.Kept.{mapped-kept, owner-kept, placed-kept, touched_since-kept, written-kept, entered-kept, standing-kept, volatile-kept, stands_in-kept, deadlines-kept, counted-kept, left-kept}
 use Rattle.kernel_model.proofs.Laws.Kinds.{maps-attach}
 use Rattle.kernel_model.proofs.Laws.Mapping.{unmaps-no}
@@ -48,7 +45,6 @@ use Rattle.kernel_model.proofs.Laws.Agree.{count_by-agree}
 use Rattle.kernel_model.proofs.Laws.Answers.{accepted-already, accepted-no_object}
 use Rattle.kernel_model.proofs.Laws.Held.{not_false}
 use Rattle.kern_ids.specs.declared.calls.Call.TheVariants.{Attach}
-use Rattle.kern_ids.specs.declared.replies.Reply.{Reply}
 use Rattle.kern_ids.specs.declared.replies.Reply.TheVariants.{Attached}
 use Rattle.kern_ids.specs.declared.replies.Counts.{Counts}
 use Rattle.vm_object.specs.Objects.{is_mapped, owner as owner_in, shares as shares_in, maps as maps_in}

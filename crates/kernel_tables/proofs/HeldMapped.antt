@@ -2,7 +2,7 @@
 use Rattle.std.proofs.Common.{◌≡◌, ℕ, List, [], ◌∷◌, length, Option, Some, None, option_map, nat_eq, refl, sym, ap, ◌∙◌, subst, Bool, true, false, not, ◌&&◌, ◌||◌, if◌then◌else◌, inl, inr}
 use Rattle.std.specs.Prelude.{IsTrue}
 use Rattle.std.specs.Option.{unwrap_or}
-use Rattle.std.proofs.lemmas.Bool.{cases_Bool, false≢true, true≢false}
+use Rattle.std.proofs.lemmas.Bool.{cases_Bool, false≢true, true≢false, and_parts, and_right}
 use Rattle.std.proofs.lemmas.Bool.Decides.{eqb_tells}
 use Rattle.kern_ids.specs.declared.entries.Entry.{Entry}
 use Rattle.kern_ids.specs.declared.ids.PageId.{PageId}
@@ -34,19 +34,8 @@ use Rattle.kernel_model.proofs.Laws.Held.{declared_task, maps_mapped, not_false}
 use Rattle.kernel_model.proofs.Laws.Scans.{scan-moved, scan_move-in}
 use Rattle.kernel_tables.specs.Values.{entry_of}
 use Rattle.kernel_tables.proofs.Accepted.{fitting-side}
+use Rattle.kernel_tables.proofs.PageKeys.{or_false}
 use Rattle.kernel_tables.proofs.PageMoves.{is_absent}
-
-and_false : (b : Bool) → (b && false) ≡ false
-and_false true = refl
-and_false false = refl
-
-or_false : (b : Bool) → (b || false) ≡ b
-or_false true = refl
-or_false false = refl
-
-both : (a b : Bool) → (a && b) ≡ true → (a ≡ true) × (b ≡ true)
-both true b h = (refl, h)
-both false b h = absurd (false≢true h)
 
 same_number : (a b : ℕ) → nat_eq a b ≡ true → a ≡ b
 same_number a b h = elim (eqb_tells a b) [ inl same ↦ same.1 | inr other ↦ absurd (false≢true (sym other.0 ∙ h)) ]
@@ -57,21 +46,21 @@ refused_not reply why h e = false≢true (sym (ap is_reply e) ∙ h)
 -- an entry that touches a page is an access of a task that maps its object
 touch_mapped : (boot : System) (before : List Entry) (who : ℕ) (call : Call) (reply : Reply) (p : PageId) → IsValidBoot boot → IsTrue (fits boot who call) → reply ≡ answer boot before who call → touches before (entry_of who call reply) p ≡ true → mapped boot before p.obj ≡ true
 touch_mapped boot before who (Write x off bytes) reply p v f h t =
-    let parts = both (is_reply reply) ((nat_eq x p.obj && reaches_page off (length bytes) p.page) || false) t in
-    let here : x ≡ p.obj = same_number x p.obj (both (nat_eq x p.obj) (reaches_page off (length bytes) p.page) (sym (or_false (nat_eq x p.obj && reaches_page off (length bytes) p.page)) ∙ parts.1)).0 in
+    let parts = and_parts (is_reply reply) ((nat_eq x p.obj && reaches_page off (length bytes) p.page) || false) t in
+    let here : x ≡ p.obj = same_number x p.obj (and_parts (nat_eq x p.obj) (reaches_page off (length bytes) p.page) (sym (or_false (nat_eq x p.obj && reaches_page off (length bytes) p.page)) ∙ parts.1)).0 in
     elim (answer-cases boot before who (Write x off bytes)) [
       | refused why r a ↦ absurd (refused_not reply why parts.0 (h ∙ a))
       | gets r a ↦ subst (λ o. mapped boot before o ≡ true) here (maps_mapped boot before x (unwrap_or (task_of boot who) 0) (declared_task boot who v (fitting-side boot before who (Write x off bytes) f)) (not_false (maps boot before x (unwrap_or (task_of boot who) 0)) (accepted-no_object boot before who (Write x off bytes) r)))
     ]
 touch_mapped boot before who (Read x off len) reply p v f h t =
-    let parts = both (is_reply reply) ((nat_eq x p.obj && reaches_page off len p.page) && not (is_empty (state before p.obj))) t in
-    let inner = both (nat_eq x p.obj && reaches_page off len p.page) (not (is_empty (state before p.obj))) parts.1 in
-    let here : x ≡ p.obj = same_number x p.obj (both (nat_eq x p.obj) (reaches_page off len p.page) inner.0).0 in
+    let parts = and_parts (is_reply reply) ((nat_eq x p.obj && reaches_page off len p.page) && not (is_empty (state before p.obj))) t in
+    let inner = and_parts (nat_eq x p.obj && reaches_page off len p.page) (not (is_empty (state before p.obj))) parts.1 in
+    let here : x ≡ p.obj = same_number x p.obj (and_parts (nat_eq x p.obj) (reaches_page off len p.page) inner.0).0 in
     elim (answer-cases boot before who (Read x off len)) [
       | refused why r a ↦ absurd (refused_not reply why parts.0 (h ∙ a))
       | gets r a ↦ subst (λ o. mapped boot before o ≡ true) here (maps_mapped boot before x (unwrap_or (task_of boot who) 0) (declared_task boot who v (fitting-side boot before who (Read x off len) f)) (not_false (maps boot before x (unwrap_or (task_of boot who) 0)) (accepted-no_object boot before who (Read x off len) r)))
     ]
-touch_mapped boot before who call reply p v f h t = absurd (false≢true (sym (and_false (is_reply reply)) ∙ t))
+touch_mapped boot before who call reply p v f h t = absurd (false≢true (sym (and_right (is_reply reply) false refl) ∙ t))
 
 in-present : (x : Place) → is_in x ≡ true → is_absent x ≡ false
 in-present Active h = refl
@@ -115,7 +104,7 @@ held-mapped boot [] p v l h = absurd (true≢false h)
 held-mapped boot (e ∷ before) p v l h =
     held_step (empties p.obj before e || unmaps boot before e p.obj) (touches before e p && is_out (place boot before p)) (move_of p e.reply) (length before) (placed boot before p) (mapped boot before p.obj) (mapped boot (e ∷ before) p.obj)
     (λ gone m. still_mapped boot e before p.obj (or_left (empties p.obj before e) (unmaps boot before e p.obj) gone) m)
-    (λ f. touch_mapped boot before e.who e.call e.reply p v l.0 l.1 (both (touches before e p) (is_out (place boot before p)) f).0)
+    (λ f. touch_mapped boot before e.who e.call e.reply p v l.0 l.1 (and_parts (touches before e p) (is_out (place boot before p)) f).0)
     (λ x m. held-mapped boot before p v l.2 (move_present boot before e.who e.call e.reply p x l.1 m))
     (λ w. held-mapped boot before p v l.2 w)
     h

@@ -30,6 +30,8 @@ pub mod PurgeSteps
 pub mod Accepted
 pub mod TaskCalls
 pub mod LimitsCall
+pub mod SetState
+pub mod SetEmptied
 pub mod Placing
 pub mod BandCall
 pub mod ActiveCall

@@ -2,12 +2,11 @@
 use Rattle.std.proofs.Common.{◌≡◌, ℕ, ◌-◌, ◌<◌, List, ◌∷◌, length, map, Option, Some, None, refl, sym, ap, ap₂, ◌∙◌, subst, Bool, true, false, ◌&&◌, ◌||◌, inl, inr, nat_eq, arith}
 use Rattle.std.specs.Option.{option_map_or}
 use Rattle.std.specs.Prelude.{count_by, IsTrue}
-use Rattle.std.proofs.lemmas.Bool.{cases_Bool, false≢true, true≢false}
+use Rattle.std.proofs.lemmas.Bool.{false≢true}
 use Rattle.std.proofs.lemmas.Bool.Decides.{eqb_tells, nat_tests}
 use Rattle.std.proofs.lemmas.List.{length-set, length-replicate}
 use Rattle.kern_ids.specs.declared.entries.Entry.{Entry}
 use Rattle.kern_ids.specs.declared.ids.PageId.{PageId}
-use Rattle.kern_ids.specs.declared.calls.State.{State}
 use Rattle.kern_ids.specs.declared.calls.State.TheVariants.{Nonvolatile}
 use Rattle.kernel_model.specs.declared.place.Place.{Place}
 use Rattle.kernel_model.specs.declared.place.Place.TheVariants.{Absent}
@@ -20,7 +19,7 @@ use Rattle.kernel_model.specs.Mapping.{live, maps, mapped, owner, unmaps}
 use Rattle.kernel_model.specs.State.{state}
 use Rattle.kernel_model.specs.Contents.{empties}
 use Rattle.kernel_model.specs.Pages.{place, placed, pages_of, is_active, is_inactive, is_stored, entered, left, inactive_pages, touched_since, written}
-use Rattle.kernel_model.specs.Groups.{volatile, standing, is_volatile_state}
+use Rattle.kernel_model.specs.Groups.{volatile, is_volatile_state}
 use Rattle.kernel_model.specs.Histories.{IsLegal}
 use Rattle.kernel_model.specs.Scan.{stamp_lt}
 use Rattle.kernel_model.specs.Laws.Kinds.{map_entry, runs_for}
@@ -30,13 +29,12 @@ use Rattle.kernel_model.proofs.Laws.Kept.{mapped-kept, owner-kept, placed-kept, 
 use Rattle.kernel_model.proofs.Laws.Kinds.{maps-map, state-map, empties-map, placed-emptied, written-emptied}
 use Rattle.kernel_model.proofs.Laws.Lost.{nat_is}
 use Rattle.kernel_model.proofs.Laws.Mapping.{unmaps-no}
-use Rattle.kernel_model.proofs.Laws.Held.{maps_mapped}
 use Rattle.kernel_model.proofs.Laws.Order.{keeps-same}
 use Rattle.kernel_model.proofs.Laws.Pages.{left-is}
 use Rattle.page_queues.specs.Pages.{Pages}
 use Rattle.ripen_advance.specs.Queues.{QueueDues}
 use Rattle.vm_object.specs.TaskSets.{has_task, no_task}
-use Rattle.vm_object.specs.Objects.{Object, object_at, changed, mapped_by, no_page}
+use Rattle.vm_object.specs.Objects.{Object, object_at, changed, mapped_by}
 use Rattle.task_ledger.specs.declared.account.Account.{Account}
 use Rattle.kernel_tables.specs.Values.{TableValues}
 use Rattle.kernel_tables.specs.Stands.{Stands, PagesStand, QueuesStand, ObjectsStand, AccountsStand}
@@ -53,7 +51,6 @@ use Rattle.kernel_model.specs.Answers.{answer, refusal}
 use Rattle.kernel_model.specs.Histories.{fits}
 use Rattle.kernel_model.proofs.Laws.Answers.{accepted-already}
 use Rattle.kern_ids.specs.declared.calls.Call.TheVariants.{Map}
-use Rattle.kern_ids.specs.declared.replies.Reply.{Reply}
 use Rattle.kern_ids.specs.declared.replies.Reply.TheVariants.{Mapped}
 use Rattle.vm_object.specs.Objects.{is_mapped, shares as shares_in}
 

@@ -1,6 +1,6 @@
 -- What an accepted call of a task on an object tells.
-use Rattle.std.proofs.Common.{◌≡◌, ℕ, ◌<◌, List, Option, Some, None, refl, sym, ap, ◌∙◌, subst, Bool, true, false, not, inl, inr, length, nat_eq, nat_lt, arith}
-use Rattle.std.specs.Prelude.{IsTrue, is_some, IsSome}
+use Rattle.std.proofs.Common.{◌≡◌, ℕ, ◌<◌, List, Option, Some, None, refl, sym, ap, ◌∙◌, subst, Bool, true, false, not, inl, inr, length, arith}
+use Rattle.std.specs.Prelude.{IsTrue, is_some}
 use Rattle.std.specs.Option.{option_map_or, unwrap_or}
 use Rattle.std.proofs.lemmas.Bool.Decides.{nat_tests}
 use Rattle.kern_ids.specs.declared.entries.Entry.{Entry}

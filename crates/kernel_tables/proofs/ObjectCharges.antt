@@ -1,6 +1,6 @@
 -- What an object counts for its owner: by the queues of the pages and by the definitions, and what an entry that changes one object
 -- makes of the counts and of the accounts.
-use Rattle.std.proofs.Common.{◌≡◌, ℕ, ◌+◌, ◌-◌, ◌/◌, ◌<◌, ◌≤◌, List, [], ◌∷◌, length, map, filter, set, get_or, cond, Option, Some, None, refl, sym, ap, ap₂, ◌∙◌, subst, Bool, true, false, ◌&&◌, ◌||◌, ◌*◌, suc, if◌then◌else◌, inl, inr, arith, nat_eq, zero-le, slice_get}
+use Rattle.std.proofs.Common.{◌≡◌, ℕ, ◌+◌, ◌-◌, ◌<◌, ◌≤◌, List, [], ◌∷◌, length, map, filter, Option, Some, None, refl, sym, ap, ap₂, ◌∙◌, subst, Bool, true, false, ◌&&◌, ◌||◌, ◌*◌, suc, if◌then◌else◌, inl, inr, arith, nat_eq, zero-le, slice_get}
 use Rattle.std.specs.Prelude.{count_by, sum_by}
 use Rattle.std.specs.List.{range_with_len}
 use Rattle.std.specs.Option.{option_map_or}
@@ -28,7 +28,7 @@ use Rattle.kernel_model.specs.Pages.{place, stamp, pages_of, pages_in, is_active
 use Rattle.kernel_model.specs.Counted.{counts, count_of, owned_by, is_nonvolatile_state}
 use Rattle.kernel_model.specs.Bands.{active, limits, Limits}
 use Rattle.kernel_model.specs.Scan.{stamp_lt}
-use Rattle.kernel_model.specs.Laws.Frames.{bit, is_in, pages_at, share_of, has_share}
+use Rattle.kernel_model.specs.Laws.Frames.{bit, is_in, pages_at, share_of}
 use Rattle.kernel_model.specs.Laws.Order.{Has, Keeps}
 use Rattle.kernel_model.specs.Laws.Queues.{KeepsPages}
 use Rattle.kernel_model.proofs.Laws.Counting.{count_by-both, count_by-weaker, count_by-and, sum_by-agree, sum_by-once, sum_by-none}

@@ -3,7 +3,7 @@ use Rattle.std.proofs.Common.{◌≡◌, ℕ, zero, suc, ◌+◌, ◌-◌, ◌*�
 use Rattle.std.specs.Prelude.{sum_by}
 use Rattle.std.specs.Option.{option_map_or}
 use Rattle.std.specs.List.{range_with_len}
-use Rattle.std.proofs.lemmas.Bool.{true≢false, false≢true}
+use Rattle.std.proofs.lemmas.Bool.{and_parts, ltb-true, eq-eqb}
 use Rattle.std.proofs.lemmas.Bool.Decides.{eqb_tells, nat_tests}
 use Rattle.std.proofs.lemmas.List.{length-set, get_or-set_same, get_or-set_other}
 use Rattle.std.proofs.lemmas.List.Elements.{All-get_or}
@@ -38,6 +38,8 @@ use Rattle.task_ledger.specs.declared.account.Account.{Account}
 use Rattle.task_ledger.specs.Accounts.{account_of, no_account, counts_plus, counts_less, with_counts, AreWithin, AreAtMost, IsSummed}
 use Rattle.kernel_tables.specs.Stands.{AccountsStand, IsAccount}
 use Rattle.kernel_tables.specs.Moves.{one_page, recounted, recharged}
+use Rattle.kernel_tables.proofs.Dropped.{pages_in-small}
+use Rattle.kernel_tables.proofs.ObjectCharges.{counted-few, owner-declared}
 
 -- what is counted for a task while pages stand so
 abbrev pub tally : System → List Entry → (PageId → Placed) → ℕ → (Place → Bool) → (State → Bool) → ℕ
@@ -112,40 +114,12 @@ charges-agree boot past f f' accounts same h =
       accounts = λ t l. (let a = h.accounts t l in record { live = a.live; counts = a.counts ∙ counted t; active = a.active; when_active = a.when_active; when_inactive = a.when_inactive; internal = a.internal });
     }
 
--- no count passes 65,536
-sum-few : (f : ℕ → ℕ) → ((x : ℕ) → f x ≤ 256) → (xs : List ℕ) → sum_by f xs ≤ 256 * length xs
-sum-few f few [] = zero-le
-sum-few f few (x ∷ xs) = let c = sum_by-cons f x xs in let a = few x in let r = sum-few f few xs in let n : length (x ∷ xs) ≡ suc (length xs) = refl in omega arith
-
-size_of : (o : Option ObjBoot) → ((x : ObjBoot) → o ≡ Some x → x.pages ≤ 256) → option_map_or (λ (x : ObjBoot). x.pages) o 0 ≤ 256
-size_of (Some x) h = h x refl
-size_of None h = zero-le
-
-pub size-fits : (boot : System) (o : ℕ) → IsValidBoot boot → pages_in boot o ≤ 256
-size-fits boot o v = size_of (slice_get boot.objects o) (λ x h. (subst (IsValidObject (length boot.tasks)) (get_or_from_slice_get boot.objects o x x h) (All-get_or (IsValidObject (length boot.tasks)) boot.objects o x (slice_get_within boot.objects o x h) v.objects)).pages)
-
-nat_below : (a b : ℕ) → nat_lt a b ≡ true → a < b
-nat_below a b h = grind (arith, nat_tests)
-
-both_true : (a b : Bool) → (a && b) ≡ true → (a ≡ true) × (b ≡ true)
-both_true true b h = (refl, h)
-both_true false b h = absurd (false≢true h)
-
+-- no page's number passes 255, and no count 65,536
 pub page-fits : (boot : System) → IsValidBoot boot → (p : PageId) → Has (pages_of boot) p → p.page < 256
 page-fits boot v p m =
-    let is = both_true (nat_lt p.obj (length boot.objects)) (nat_lt p.page (pages_in boot p.obj)) (has-pages boot p m) in
-    let few : pages_in boot p.obj ≤ 256 = size-fits boot p.obj v in
-    let below : p.page < pages_in boot p.obj = nat_below p.page (pages_in boot p.obj) is.1 in
-    omega arith
-
-counted-few : (boot : System) (f : PageId → Bool) → IsValidBoot boot → count_by f (pages_of boot) ≤ 65536
-counted-few boot f v =
-    let part : ℕ → ℕ = λ o. count_by (λ k. f (record { obj = o; page = k })) (range_with_len 0 (pages_in boot o)) in
-    let each : (o : ℕ) → part o ≤ 256 = λ o. (let most : part o ≤ length (range_with_len 0 (pages_in boot o)) = count_by-le-length (λ k. f (record { obj = o; page = k })) (range_with_len 0 (pages_in boot o)) in let n : length (range_with_len 0 (pages_in boot o)) ≡ pages_in boot o = length-range_with_len 0 (pages_in boot o) in let s : pages_in boot o ≤ 256 = size-fits boot o v in omega arith) in
-    let all : sum_by part (range_with_len 0 (length boot.objects)) ≤ 256 * length (range_with_len 0 (length boot.objects)) = sum-few part each (range_with_len 0 (length boot.objects)) in
-    let n : length (range_with_len 0 (length boot.objects)) ≡ length boot.objects = length-range_with_len 0 (length boot.objects) in
-    let is : count_by f (pages_of boot) ≡ sum_by part (range_with_len 0 (length boot.objects)) = pages-by_objects boot f in
-    let o : length boot.objects ≤ 256 = v.few_objects in
+    let is = and_parts (nat_lt p.obj (length boot.objects)) (nat_lt p.page (pages_in boot p.obj)) (has-pages boot p m) in
+    let few : pages_in boot p.obj ≤ 256 = pages_in-small boot v p.obj in
+    let below : p.page < pages_in boot p.obj = ltb-true p.page (pages_in boot p.obj) is.1 in
     omega arith
 
 bit_apart : (a w : Bool) (x : Place) → bit ((a && is_in x && w) || (a && is_stored x && w)) ≡ bit (a && is_in x && w) + bit (a && is_stored x && w)
@@ -163,12 +137,12 @@ counts-within boot past f t v =
     let inside : PageId → Bool = λ p. owned_by boot past t p && is_in (f p).place && is_nonvolatile_state (state past p.obj) in
     let outside : PageId → Bool = λ p. owned_by boot past t p && is_stored (f p).place && is_nonvolatile_state (state past p.obj) in
     let sum : count_by (λ p. inside p || outside p) (pages_of boot) ≡ count_by inside (pages_of boot) + count_by outside (pages_of boot) = count_by-both (λ p. inside p || outside p) inside outside (λ p. bit_apart (owned_by boot past t p) (is_nonvolatile_state (state past p.obj)) (f p).place) (pages_of boot) in
-    let few : count_by (λ p. inside p || outside p) (pages_of boot) ≤ 65536 = counted-few boot (λ p. inside p || outside p) v in
+    let few : count_by (λ p. inside p || outside p) (pages_of boot) ≤ 65536 = counted-few boot past (λ p. inside p || outside p) v in
     record {
-      res_non = counted-few boot inside v;
-      res_vol = counted-few boot (λ p. owned_by boot past t p && is_in (f p).place && is_volatile_state (state past p.obj)) v;
-      com_non = counted-few boot outside v;
-      com_vol = counted-few boot (λ p. owned_by boot past t p && is_stored (f p).place && is_volatile_state (state past p.obj)) v;
+      res_non = counted-few boot past inside v;
+      res_vol = counted-few boot past (λ p. owned_by boot past t p && is_in (f p).place && is_volatile_state (state past p.obj)) v;
+      com_non = counted-few boot past outside v;
+      com_vol = counted-few boot past (λ p. owned_by boot past t p && is_stored (f p).place && is_volatile_state (state past p.obj)) v;
       footprint = omega arith;
     }
 
@@ -183,13 +157,6 @@ owned_bit a b c h = ap (λ x. bit (x && b && c)) h
 
 other_bit : (a b c : Bool) → a ≡ false → bit (a && b && c) ≡ 0
 other_bit a b c h = ap (λ x. bit (x && b && c)) h
-
-same-owner : (t : ℕ) → nat_eq t t ≡ true
-same-owner t = grind (arith, nat_tests)
-
-pub owner-declared : (boot : System) (past : List Entry) (o t : ℕ) → owner boot past o ≡ Some t → t < length boot.tasks
-unfolding owner
-owner-declared boot past o t h = let q = has-range 0 (length boot.tasks) t (find-has (maps boot past o) (tasks_of boot) t h).0 in omega (arith, q.1)
 
 -- counts less those of a page in one place, and with those of it in another
 less_more : (n b b' n' : ℕ) → n' + b ≡ n + b' → b ≤ n → n - b + b' ≡ n'
@@ -250,7 +217,7 @@ module _ (boot : System) (past : List Entry) (f f' : PageId → Placed) (p : Pag
   -- the page is in the account of its owner, and its account is still within bounds
   pub charged-page : (t : ℕ) (account : Account) → owner boot past p.obj ≡ Some t → IsCharged boot past f t account → AreAtMost (one_page (state past p.obj) (f p).place) account.counts
   charged-page t account is a =
-      let owns : owned_by boot past t p ≡ true = ap (λ (o : Option ℕ). option_map_or (nat_eq t) o false) is ∙ same-owner t in
+      let owns : owned_by boot past t p ≡ true = ap (λ (o : Option ℕ). option_map_or (nat_eq t) o false) is ∙ eq-eqb t t refl in
       let rn = tally-owner t is_in is_nonvolatile_state owns in
       let cn = tally-owner t is_stored is_nonvolatile_state owns in
       subst (AreAtMost (one_page (state past p.obj) (f p).place)) (sym a.counts) (record {
@@ -263,7 +230,7 @@ module _ (boot : System) (past : List Entry) (f f' : PageId → Placed) (p : Pag
 
   charged-owner : (t : ℕ) (account : Account) → owner boot past p.obj ≡ Some t → IsCharged boot past f t account → recounted (state past p.obj) (f p).place (f' p).place account.counts ≡ counts_by boot past f' t
   charged-owner t account is a =
-      let owns : owned_by boot past t p ≡ true = ap (λ (o : Option ℕ). option_map_or (nat_eq t) o false) is ∙ same-owner t in
+      let owns : owned_by boot past t p ≡ true = ap (λ (o : Option ℕ). option_map_or (nat_eq t) o false) is ∙ eq-eqb t t refl in
       ap (recounted (state past p.obj) (f p).place (f' p).place) a.counts ∙ counts-owner t owns
 
   pub recharged-room : (t : ℕ) (account : Account) → IsValidBoot boot → owner boot past p.obj ≡ Some t → IsCharged boot past f t account → AreWithin (recounted (state past p.obj) (f p).place (f' p).place account.counts)

@@ -1,5 +1,5 @@
 -- The keys of pages, and the lists of pages that the keys of the queues stand for.
-use Rattle.std.proofs.Common.{◌≡◌, ℕ, zero, suc, ◌+◌, ◌*◌, ◌/◌, ◌%◌, ◌<◌, ◌≤◌, List, [], ◌∷◌, ◌++◌, length, map, filter, set, get_or, cond, if◌then◌else◌, not, Option, Some, None, nat_eq, refl, sym, ap, ap₂, ◌∙◌, subst, Bool, true, false, ◌&&◌, inl, inr, arith}
+use Rattle.std.proofs.Common.{◌≡◌, ℕ, zero, suc, ◌+◌, ◌*◌, ◌/◌, ◌%◌, ◌<◌, ◌≤◌, List, [], ◌∷◌, ◌++◌, length, map, filter, set, get_or, cond, if◌then◌else◌, not, Option, Some, None, nat_eq, refl, sym, ap, ap₂, ◌∙◌, subst, Bool, true, false, ◌&&◌, ◌||◌, inl, inr, arith}
 use Rattle.std.proofs.lemmas.Bool.{cases_eq, cases_lt, cases_Bool, true≢false, false≢true, eq-eqb, ne_eqb}
 use Rattle.std.proofs.lemmas.Bool.Decides.{eqb_tells, nat_tests}
 use Rattle.std.proofs.lemmas.List.{map-append, append-nil, length-set, get_or-map, get_or-set_same, get_or-set_other, get_or_past}
@@ -11,6 +11,17 @@ use Rattle.link_list.specs.KeyLists.{list_at, has, place_of, without}
 use Rattle.link_list.proofs.Members.{without_head, without_other, has_push_new, has_push_other, has_without_other, has_without_none, has_without}
 use Rattle.page_queues.specs.Tallies.{taken, moved}
 use Rattle.page_queues.specs.Pages.{key_of, page_of}
+
+pub same_itself : (p : PageId) → same_page p p ≡ true
+same_itself p = ap₂ (λ a b. a && b) (eq-eqb p.obj p.obj refl) (eq-eqb p.page p.page refl)
+
+pub and_true : (b : Bool) → (b && true) ≡ b
+and_true true = refl
+and_true false = refl
+
+pub or_false : (b : Bool) → (b || false) ≡ b
+or_false true = refl
+or_false false = refl
 
 -- the page of a page's key, and the key of a key's page
 pub page_of-key : (p : PageId) → p.page < 256 → page_of (key_of p) ≡ p

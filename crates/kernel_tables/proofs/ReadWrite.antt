@@ -3,7 +3,7 @@ use Rattle.std.proofs.Common.{◌≡◌, ℕ, ◌+◌, ◌-◌, ◌*◌, ◌/◌
 use Rattle.std.specs.Prelude.{IsTrue}
 use Rattle.std.specs.Option.{unwrap_or}
 use Rattle.std.specs.List.{range_with_len}
-use Rattle.std.proofs.lemmas.Bool.{cases_lt, false≢true, true≢false, and_parts, ltb-true, lt-ltb}
+use Rattle.std.proofs.lemmas.Bool.{false≢true, true≢false, and_parts, or_parts, and_right, ltb-true, ltb-false, eq-eqb}
 use Rattle.std.proofs.lemmas.Bool.Decides.{eqb_tells, nat_tests}
 use Rattle.std.proofs.lemmas.List.{length-set, get_or-set_same, get_or-set_other}
 use Rattle.kern_ids.specs.declared.entries.Entry.{Entry}
@@ -36,16 +36,15 @@ use Rattle.kernel_tables.specs.Stands.{Stands, ObjectsStand}
 use Rattle.kernel_tables.specs.Moves.{IsRange, touched_range, charged_range, written_range}
 use Rattle.kernel_tables.proofs.Accepted.{accepted-answer, fitting-names, fitting-side}
 use Rattle.kernel_tables.proofs.Kept.{kept-pages, kept-objects, kept-dues}
-use Rattle.kernel_tables.proofs.PageCharges.{charges-stand, charges-agree, size-fits}
+use Rattle.kernel_tables.proofs.Dropped.{pages_in-small}
+use Rattle.kernel_tables.proofs.PageKeys.{and_true, or_false}
+use Rattle.kernel_tables.proofs.PageCharges.{charges-stand, charges-agree}
 use Rattle.kernel_tables.proofs.OnlyPages.{OnlyPages, same-maps, same-mapped, same-state, idle-placed, idle-touched, same-deadlines, charged-stand, only-pages-stand}
 use Rattle.kernel_tables.proofs.Recharges.{page-object}
 use Rattle.kernel_tables.proofs.Touches.{reaches-is}
 use Rattle.kernel_tables.proofs.Accesses.{access-stands}
 
 -- what an accepted access tells of its range
-neither : (a b : Bool) → (a || b) ≡ false → (a ≡ false) × (b ≡ false)
-neither true b h = absurd (true≢false h)
-neither false b h = (refl, h)
 
 none_of : {A : Type 0} (b : Bool) (x : A) → some_if b x ≡ None → b ≡ false
 none_of true x h = absurd (cc)
@@ -62,14 +61,11 @@ accepted-full boot past who call h = none_of (emptied past call) Emptied (first_
 positive : (n : ℕ) → nat_eq n 0 ≡ false → 0 < n
 positive n h = grind (arith, nat_tests)
 
-not_below : (a b : ℕ) → nat_lt a b ≡ false → b ≤ a
-not_below a b h = elim (cases_lt a b) [ inl l ↦ absurd (true≢false (sym (lt-ltb a b l) ∙ h)) | inr m ↦ m ]
-
 in-range : (boot : System) (o off len : ℕ) → o < length boot.objects → bad_range boot o off len ≡ false → IsRange boot o off len
 in-range boot o off len d h =
-    let outer = neither (nat_eq len 0 || nat_lt 256 len) (nat_lt (4096 * pages_in boot o) (off + len)) h in
-    let inner = neither (nat_eq len 0) (nat_lt 256 len) outer.0 in
-    record { object = d; some = positive len inner.0; few = not_below 256 len inner.1; inside = not_below (4096 * pages_in boot o) (off + len) outer.1 }
+    let outer = or_parts (nat_eq len 0 || nat_lt 256 len) (nat_lt (4096 * pages_in boot o) (off + len)) h in
+    let inner = or_parts (nat_eq len 0) (nat_lt 256 len) outer.0 in
+    record { object = d; some = positive len inner.0; few = ltb-false 256 len inner.1; inside = ltb-false (4096 * pages_in boot o) (off + len) outer.1 }
 
 pub read-range : (boot : System) (past : List Entry) (who o off len : ℕ) → IsTrue (fits boot who (Read o off len)) → refusal boot past who (Read o off len) ≡ None → IsRange boot o off len
 read-range boot past who o off len f h = in-range boot o off len (ltb-true o (length boot.objects) (fitting-names boot past who (Read o off len) f)) (accepted-range boot past who (Read o off len) h)
@@ -78,11 +74,11 @@ pub write-range : (boot : System) (past : List Entry) (who o off : ℕ) (bytes :
 write-range boot past who o off bytes f h = in-range boot o off (length bytes) (ltb-true o (length boot.objects) (and_parts (nat_lt o (length boot.objects)) (nat_lt 0 (length bytes)) (fitting-names boot past who (Write o off bytes) f)).0) (accepted-range boot past who (Write o off bytes) h)
 
 pub range-bound : (boot : System) (o off len : ℕ) → IsValidBoot boot → IsRange boot o off len → off + len ≤ 1048576
-range-bound boot o off len v r = let f = size-fits boot o v in let i = r.inside in omega arith
+range-bound boot o off len v r = let f = pages_in-small boot v o in let i = r.inside in omega arith
 
 enough_of : (boot : System) (past : List Entry) (n : ℕ) → short_of boot past n ≡ None → n ≤ free boot past
 unfolding short_of
-enough_of boot past n h = not_below (free boot past) n (none_of (nat_lt (free boot past) n) (Shortage n (free boot past)) h)
+enough_of boot past n h = ltb-false (free boot past) n (none_of (nat_lt (free boot past) n) (Shortage n (free boot past)) h)
 
 pub read-enough : (boot : System) (past : List Entry) (who o off len : ℕ) → refusal boot past who (Read o off len) ≡ None → is_empty (state past o) ≡ false → needed boot past o off len ≤ free boot past
 read-enough boot past who o off len h full = enough_of boot past (needed boot past o off len) (sym (ap (λ b. if b then None else short_of boot past (needed boot past o off len)) full) ∙ accepted-shortage boot past who (Read o off len) h)
@@ -108,18 +104,6 @@ read-only who o off len seen = record { map = λ o. refl; attach = λ o. refl; u
 write-only : (who o off : ℕ) (bytes : List ℕ) → OnlyPages (write_entry who o off bytes)
 write-only who o off bytes = record { map = λ o. refl; attach = λ o. refl; unmap = λ o. refl; exit = refl; tick = refl; wish = λ o. refl; set = refl; band = λ t. refl; active = refl; limits = λ t. refl; purged = refl; killed = refl; aged = refl }
 
-and_true : (b : Bool) → (b && true) ≡ b
-and_true true = refl
-and_true false = refl
-
-and_false : (b : Bool) → (b && false) ≡ false
-and_false true = refl
-and_false false = refl
-
-or_false : (b : Bool) → (b || false) ≡ b
-or_false true = refl
-or_false false = refl
-
 read-touches : (past : List Entry) (who o off len : ℕ) (seen : List ℕ) → is_empty (state past o) ≡ false → (p : PageId) → touches past (read_entry who o off len seen) p ≡ (nat_eq o p.obj && reaches_page off len p.page)
 read-touches past who o off len seen full p = elim (eqb_tells o p.obj) [
   | inl same ↦ ap (λ b. (nat_eq o p.obj && reaches_page off len p.page) && not b) (ap (λ x. is_empty (state past x)) (sym same.1) ∙ full) ∙ and_true (nat_eq o p.obj && reaches_page off len p.page)
@@ -128,7 +112,7 @@ read-touches past who o off len seen full p = elim (eqb_tells o p.obj) [
 
 read-none : (past : List Entry) (who o off len : ℕ) (seen : List ℕ) → is_empty (state past o) ≡ true → (p : PageId) → touches past (read_entry who o off len seen) p ≡ false
 read-none past who o off len seen none p = elim (eqb_tells o p.obj) [
-  | inl same ↦ ap (λ b. (nat_eq o p.obj && reaches_page off len p.page) && not b) (ap (λ x. is_empty (state past x)) (sym same.1) ∙ none) ∙ and_false (nat_eq o p.obj && reaches_page off len p.page)
+  | inl same ↦ ap (λ b. (nat_eq o p.obj && reaches_page off len p.page) && not b) (ap (λ x. is_empty (state past x)) (sym same.1) ∙ none) ∙ and_right (nat_eq o p.obj && reaches_page off len p.page) false refl
   | inr other ↦ ap (λ b. (b && reaches_page off len p.page) && not (is_empty (state past p.obj))) other.0
 ]
 
@@ -161,12 +145,10 @@ full-read-stands tables past who o off len seen v r three marks legal full s =
     (kept-objects boot e past tables.objects (same-maps boot e past only) (same-mapped boot e past only) (same-state boot e past only) (λ q. written-kept e past q refl) s.objects)
 
 -- the objects after a page more was written
-nat_eq-itself : (n : ℕ) → nat_eq n n ≡ true
-nat_eq-itself n = grind (arith, nat_tests)
 
 changed-at : (objects : List Object) (o : ℕ) (g : Object → Object) (x : ℕ) → o < length objects → object_at (changed objects o g) x ≡ (if nat_eq o x then g (object_at objects x) else object_at objects x)
 changed-at objects o g x l = elim (eqb_tells o x) [
-  | inl same ↦ subst (λ y. object_at (changed objects o g) y ≡ (if nat_eq o y then g (object_at objects y) else object_at objects y)) same.1 (get_or-set_same objects o (g (object_at objects o)) no_object l ∙ sym (ap (λ b. if b then g (object_at objects o) else object_at objects o) (nat_eq-itself o)))
+  | inl same ↦ subst (λ y. object_at (changed objects o g) y ≡ (if nat_eq o y then g (object_at objects y) else object_at objects y)) same.1 (get_or-set_same objects o (g (object_at objects o)) no_object l ∙ sym (ap (λ b. if b then g (object_at objects o) else object_at objects o) (eq-eqb o o refl)))
   | inr other ↦ get_or-set_other objects o x (g (object_at objects o)) no_object (λ e. other.1 (sym e)) ∙ sym (ap (λ b. if b then g (object_at objects x) else object_at objects x) other.0)
 ]
 
@@ -179,7 +161,7 @@ field-kept objects o k x field l same = ap field (changed-at objects o (with_wri
 
 marked : (marks : List Bool) (k j : ℕ) → k < length marks → get_or (set marks k true) j false ≡ (nat_eq k j || get_or marks j false)
 marked marks k j l = elim (eqb_tells k j) [
-  | inl same ↦ subst (λ i. get_or (set marks k true) i false ≡ (nat_eq k i || get_or marks i false)) same.1 (get_or-set_same marks k true false l ∙ sym (ap (λ b. b || get_or marks k false) (nat_eq-itself k)))
+  | inl same ↦ subst (λ i. get_or (set marks k true) i false ≡ (nat_eq k i || get_or marks i false)) same.1 (get_or-set_same marks k true false l ∙ sym (ap (λ b. b || get_or marks k false) (eq-eqb k k refl)))
   | inr other ↦ get_or-set_other marks k j true false (λ e. other.1 (sym e)) ∙ sym (ap (λ b. b || get_or marks j false) other.0)
 ]
 
@@ -195,12 +177,12 @@ written-changed objects o k p l inside =
       | inr other ↦ absurd (false≢true (sym other.0 ∙ t))
     ])
 
-or_parts : (a f l w : Bool) → ((a && l) || ((a && f) || w)) ≡ ((a && (f || l)) || w)
-or_parts false f l w = refl
-or_parts true true true w = refl
-or_parts true true false w = refl
-or_parts true false true w = refl
-or_parts true false false w = refl
+either_page : (a f l w : Bool) → ((a && l) || ((a && f) || w)) ≡ ((a && (f || l)) || w)
+either_page false f l w = refl
+either_page true true true w = refl
+either_page true true false w = refl
+either_page true false true w = refl
+either_page true false false w = refl
 
 module _ (boot : System) (past : List Entry) (who o off : ℕ) (bytes : List ℕ) (objects : List Object) (v : IsValidBoot boot) (r : IsRange boot o off (length bytes)) (is : IsObject (object_at objects o)) (s : ObjectsStand boot past objects) where
   declared : o < length objects
@@ -213,14 +195,14 @@ module _ (boot : System) (past : List Entry) (who o off : ℕ) (bytes : List ℕ
   declared-once = let d = declared in let c : length once ≡ length objects = length-set objects o (with_written (off / 4096) (object_at objects o)) in omega arith
 
   first-small : off / 4096 < 256
-  first-small = let f = size-fits boot o v in let i = r.inside in let n = r.some in omega arith
+  first-small = let f = pages_in-small boot v o in let i = r.inside in let n = r.some in omega arith
 
   last-small : (off + length bytes - 1) / 4096 < 256
-  last-small = let f = size-fits boot o v in let i = r.inside in let n = r.some in omega arith
+  last-small = let f = pages_in-small boot v o in let i = r.inside in let n = r.some in omega arith
 
   length-once : length (object_at once o).written ≡ 256
   length-once =
-      ap (λ (x : Object). length x.written) (changed-at objects o (with_written (off / 4096)) o declared ∙ ap (λ b. if b then with_written (off / 4096) (object_at objects o) else object_at objects o) (nat_eq-itself o))
+      ap (λ (x : Object). length x.written) (changed-at objects o (with_written (off / 4096)) o declared ∙ ap (λ b. if b then with_written (off / 4096) (object_at objects o) else object_at objects o) (eq-eqb o o refl))
       ∙ length-set (object_at objects o).written (off / 4096) true ∙ is.written
 
   field-twice : {A : Type 0} (field : Object → A) (x : ℕ) → ((k : ℕ) (y : Object) → field (with_written k y) ≡ field y) → field (object_at (written_range o off (length bytes) objects) x) ≡ field (object_at objects x)
@@ -232,7 +214,7 @@ module _ (boot : System) (past : List Entry) (who o off : ℕ) (bytes : List ℕ
       let begun : off / 4096 < length (object_at objects o).written = let l = first-small in let c = is.written in omega arith in
       written-changed once o ((off + length bytes - 1) / 4096) p declared-once inside
       ∙ ap (λ w. (nat_eq o p.obj && nat_eq ((off + length bytes - 1) / 4096) p.page) || w) (written-changed objects o (off / 4096) p declared begun)
-      ∙ or_parts (nat_eq o p.obj) (nat_eq (off / 4096) p.page) (nat_eq ((off + length bytes - 1) / 4096) p.page) (is_written objects p.obj p.page)
+      ∙ either_page (nat_eq o p.obj) (nat_eq (off / 4096) p.page) (nat_eq ((off + length bytes - 1) / 4096) p.page) (is_written objects p.obj p.page)
       ∙ ap (λ b. (nat_eq o p.obj && b) || is_written objects p.obj p.page) (sym (reaches-is off (length bytes) p.page r.some r.few))
 
   written-stand : ObjectsStand boot (write_entry who o off bytes ∷ past) (written_range o off (length bytes) objects)

@@ -17,7 +17,8 @@ use Rattle.task_ledger.specs.declared.account.Account.{Account}
 use Rattle.vm_object.specs.Objects.{Object, object_at, owner as owner_in}
 use Rattle.kernel_tables.specs.Stands.{ObjectsStand}
 use Rattle.kernel_tables.specs.Moves.{recharged, IsChargeable}
-use Rattle.kernel_tables.proofs.PageCharges.{ChargesHold, charged-page, recharged-room, recharge-holds, owner-declared}
+use Rattle.kernel_tables.proofs.PageCharges.{ChargesHold, charged-page, recharged-room, recharge-holds}
+use Rattle.kernel_tables.proofs.ObjectCharges.{owner-declared}
 use Rattle.kernel_tables.proofs.Objects.{owner-stands}
 
 -- the owner of an object and its state, by the table

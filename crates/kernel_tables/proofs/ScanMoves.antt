@@ -1,7 +1,7 @@
 -- The scan moves one page: what the tables are afterwards.
 use Rattle.std.proofs.Common.{◌≡◌, ℕ, zero, suc, ◌+◌, ◌-◌, ◌<◌, ◌≤◌, List, [], ◌∷◌, length, map, if◌then◌else◌, not, Option, Some, None, slice_get, get_or, nat_eq, nat_lt, count_by, refl, sym, ap, ap₂, ◌∙◌, subst, Bool, true, false, ◌&&◌, inl, inr, arith, zero-le}
 use Rattle.std.specs.Prelude.{IsTrue}
-use Rattle.std.proofs.lemmas.Bool.{false≢true}
+use Rattle.std.proofs.lemmas.Bool.{false≢true, and_right}
 use Rattle.std.proofs.lemmas.Bool.Decides.{nat_tests}
 use Rattle.kern_ids.specs.declared.entries.Entry.{Entry}
 use Rattle.kern_ids.specs.declared.ids.PageId.{PageId}
@@ -48,24 +48,14 @@ use Rattle.kernel_tables.specs.Values.{TableValues, entry_of}
 use Rattle.kernel_tables.specs.Stands.{Stands, PagesStand, HasDues}
 use Rattle.kernel_tables.specs.Moves.{moved_from, movable, moved_first, told_of, entered_by, recharged, IsChargeable, CanTell}
 use Rattle.kernel_tables.proofs.Kept.{kept-objects}
-use Rattle.kernel_tables.proofs.PageKeys.{key_of-page}
+use Rattle.kernel_tables.proofs.PageKeys.{key_of-page, same_itself}
 use Rattle.kernel_tables.proofs.PageMoves.{PagesHold, stamped, is_absent, placed-since, hold-placed, hold-absented, hold-stands, stands-hold}
 use Rattle.kernel_tables.proofs.PageCharges.{ChargesHold, charges-stand, page-fits, has-counted}
 use Rattle.kernel_tables.proofs.OnlyPages.{OnlyPages, same-maps, same-mapped, same-state, same-deadlines, charged-stand, only-pages-stand}
 use Rattle.kernel_tables.proofs.Recharges.{page-object, recharge-can, recharge-does}
 
-nat_eq-itself : (n : ℕ) → nat_eq n n ≡ true
-nat_eq-itself n = grind (arith, nat_tests)
-
-same_itself : (p : PageId) → same_page p p ≡ true
-same_itself p = ap₂ (λ a b. a && b) (nat_eq-itself p.obj) (nat_eq-itself p.page)
-
 same-swap : (q p : PageId) → same_page q p ≡ same_page p q
 same-swap q p = ap₂ (λ a b. a && b) (nat_eq-swap q.obj p.obj) (nat_eq-swap q.page p.page)
-
-and-false : (b : Bool) → (b && false) ≡ false
-and-false true = refl
-and-false false = refl
 
 abbrev put_at : Place → ℕ → Placed
 put_at x n = record { place = x; number = n }
@@ -92,7 +82,7 @@ module _ (boot : System) (past : List Entry) (who : ℕ) (how : Move) (p : PageI
   touched-other q off = touched_since-moved boot who how p past q ∙ ap (λ b. not b && touched_since boot past q) (same-swap q p ∙ off)
 
   unmarked-here : (is_inactive (place boot (moved_entry who how p ∷ past) p) && touched_since boot (moved_entry who how p ∷ past) p) ≡ false
-  unmarked-here = ap (λ b. is_inactive (place boot (moved_entry who how p ∷ past) p) && b) untouched-here ∙ and-false (is_inactive (place boot (moved_entry who how p ∷ past) p))
+  unmarked-here = ap (λ b. is_inactive (place boot (moved_entry who how p ∷ past) p) && b) untouched-here ∙ and_right (is_inactive (place boot (moved_entry who how p ∷ past) p)) false refl
 
   moved-behind : (q : PageId) → same_page p q ≡ false → is_absent (place boot past q) ≡ false → pair_lt (stamped (placed boot past) q) (stamped (placed boot (moved_entry who how p ∷ past)) p) ≡ true
   moved-behind q off k = subst (λ (x : Placed). pair_lt (stamped (placed boot past) q) (x.number, p.page) ≡ true) (sym moved-here) (pair_lt-newer (stamped (placed boot past) q) (length past, p.page) (placed-since boot past q k))

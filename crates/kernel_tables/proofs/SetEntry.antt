@@ -1,14 +1,12 @@
 -- An accepted SetState that empties nothing: what it makes of each definition.
 use Rattle.std.proofs.Common.{◌≡◌, ℕ, ◌+◌, ◌-◌, ◌<◌, ◌≤◌, List, [], ◌∷◌, length, map, Option, Some, None, option_map, refl, sym, ap, ap₂, ◌∙◌, subst, Bool, true, false, not, ◌&&◌, ◌||◌, if◌then◌else◌, inl, inr, nat_eq, arith}
 use Rattle.std.specs.Option.{unwrap_or}
-use Rattle.std.specs.Prelude.{option_and_then, count_by}
-use Rattle.std.proofs.lemmas.Bool.{cases_Bool, false≢true, true≢false}
-use Rattle.std.proofs.lemmas.Bool.Decides.{eqb_tells, nat_tests}
+use Rattle.std.proofs.lemmas.Bool.{true≢false}
+use Rattle.std.proofs.lemmas.Bool.Decides.{eqb_tells}
 use Rattle.std.proofs.lemmas.List.{length-set}
 use Rattle.kern_ids.specs.declared.entries.Entry.{Entry}
 use Rattle.kern_ids.specs.declared.ids.PageId.{PageId}
 use Rattle.kern_ids.specs.declared.calls.Queue.{Queue}
-use Rattle.kern_ids.specs.declared.calls.Queue.TheVariants.{Obsolete, Lifo, Fifo}
 use Rattle.kern_ids.specs.declared.calls.State.{State}
 use Rattle.kern_ids.specs.declared.calls.State.TheVariants.{Nonvolatile, Volatile, Empty}
 use Rattle.kern_ids.specs.declared.calls.Wish.{Wish}
@@ -20,7 +18,7 @@ use Rattle.kernel_model.specs.System.{System}
 use Rattle.kernel_model.specs.Mapping.{maps, mapped, owner, unmaps}
 use Rattle.kernel_model.specs.State.{state, state_asked, is_empty}
 use Rattle.kernel_model.specs.Contents.{empties, is_ask_empty}
-use Rattle.kernel_model.specs.Pages.{place, placed, pages_of, pages_in, is_inactive, entered, left, inactive_pages, touched_since, written}
+use Rattle.kernel_model.specs.Pages.{placed, pages_in, is_inactive, entered, left, inactive_pages, touched_since, written}
 use Rattle.kernel_model.specs.Groups.{volatile, standing, standing_asked, stands_in, same_queue, is_volatile_state}
 use Rattle.kernel_model.specs.Answers.{shares}
 use Rattle.kernel_model.specs.Laws.Kinds.{set_entry}
@@ -149,6 +147,9 @@ module _ (boot : System) (who o word : ℕ) (wish : Wish) (before : List Entry) 
 
   pub set-stamp : (from : Option Queue) (at : Queue × ℕ) → (row (state before o) wish from).enter ≡ Some at → (standing (setting ∷ before) o).vstamp ≡ length before
   set-stamp from at h = ap (λ (s : Standing). s.vstamp) standing_here ∙ stamped (state before o) wish from (length before) (standing before o) at h
+
+  pub set-group : (from : Option Queue) (at : Queue × ℕ) → (row (state before o) wish from).enter ≡ Some at → (standing (setting ∷ before) o).group ≡ at.1
+  set-group from at h = ap (λ (s : Standing). s.group) standing_here ∙ ap (λ (w : Wish). (unwrap_or (standing_asked (length before) w) (standing before o)).group) (row-group (state before o) wish from at h)
 
   pub set-entered : entered (setting ∷ before) ≡ entered before
   set-entered = entered-kept setting before refl

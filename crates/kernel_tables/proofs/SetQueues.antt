@@ -1,6 +1,5 @@
 -- The groups and the tokens after an object left its group and entered another one.
-use Rattle.std.proofs.Common.{◌≡◌, ℕ, suc, ◌+◌, ◌-◌, ◌<◌, ◌≤◌, List, [], ◌∷◌, ◌++◌, length, map, filter, set, Option, Some, None, option_map, refl, sym, ap, ap₂, ◌∙◌, subst, Bool, true, false, not, ◌&&◌, if◌then◌else◌, inl, inr, ◌⊎◌, nat_eq, arith, cond}
-use Rattle.std.specs.Prelude.{drop, IsNone, IsSome, count_by}
+use Rattle.std.proofs.Common.{◌≡◌, ℕ, ◌+◌, ◌-◌, ◌<◌, ◌≤◌, List, [], ◌∷◌, ◌++◌, length, map, Option, Some, None, refl, sym, ap, ◌∙◌, subst, Bool, true, false, not, ◌&&◌, if◌then◌else◌, inl, inr, nat_eq, arith}
 use Rattle.std.specs.Option.{option_map_or}
 use Rattle.std.proofs.lemmas.Bool.{cases_Bool, false≢true, true≢false}
 use Rattle.std.proofs.lemmas.Bool.Decides.{eqb_tells, nat_tests}
@@ -9,16 +8,16 @@ use Rattle.kern_ids.specs.declared.entries.Entry.{Entry}
 use Rattle.kern_ids.specs.declared.calls.Queue.{Queue}
 use Rattle.kern_ids.specs.declared.calls.Queue.TheVariants.{Obsolete, Lifo, Fifo}
 use Rattle.kernel_model.specs.System.{System}
-use Rattle.kernel_model.specs.Groups.{standing, stands_in, same_queue, is_lifo}
-use Rattle.kernel_model.specs.Deadlines.{Deadlines, of_queue, with_queue, with_new, new_deadline, without_first, without_last}
+use Rattle.kernel_model.specs.Groups.{standing, stands_in, same_queue}
+use Rattle.kernel_model.specs.Deadlines.{Deadlines, of_queue, with_new, new_deadline, without_first, without_last}
 use Rattle.kernel_model.specs.Pages.{entered}
 use Rattle.kernel_model.specs.Laws.Queues.{KeepsGroup}
 use Rattle.kernel_model.proofs.Laws.Lists.{same_queue-is, with_queue-of}
 use Rattle.kernel_model.proofs.Laws.Queues.{group-enter, group-enter_lifo, group-filter}
-use Rattle.link_list.specs.KeyLists.{list_at, without, place_of}
+use Rattle.link_list.specs.KeyLists.{without, place_of}
 use Rattle.link_list.proofs.Places.{without_nowhere}
-use Rattle.volatile_groups.specs.Grouped.{first_list, members, joined, entered as with_object, AreGroups}
-use Rattle.ripen_advance.specs.Queues.{QueueDues, dues_in, with_dues, new_due, all_but_last}
+use Rattle.volatile_groups.specs.Grouped.{first_list, members, joined, entered as with_object}
+use Rattle.ripen_advance.specs.Queues.{QueueDues, dues_in}
 use Rattle.purge_pick.specs.Follows.{Follows}
 use Rattle.purge_pick.proofs.FollowLemmas.{first-follows, last-follows, added-follows}
 use Rattle.kernel_tables.specs.Settings.{entered_at, token_taken, token_added}

@@ -23,13 +23,8 @@ use Rattle.page_queues.proofs.KeptLemmas.{length-without_le}
 use Rattle.kernel_tables.specs.Moves.{touched, place_touched}
 use Rattle.kernel_tables.proofs.PageCharges.{has-counted}
 use Rattle.kernel_tables.proofs.Lists.{placed-at}
+use Rattle.kernel_tables.proofs.PageKeys.{same_itself}
 use Rattle.kernel_tables.proofs.PageMoves.{PagesHold, stamped, is_absent, hold-placed, hold-marked, hold-agree}
-
-nat_eq-itself : (n : ℕ) → nat_eq n n ≡ true
-nat_eq-itself n = grind (arith, nat_tests)
-
-pub same_itself : (p : PageId) → same_page p p ≡ true
-same_itself p = ap₂ (λ a b. a && b) (nat_eq-itself p.obj) (nat_eq-itself p.page)
 
 abbrev pub put_at : Place → ℕ → Placed
 put_at x n = record { place = x; number = n }

@@ -1,12 +1,11 @@
 -- All pages of an object that nobody maps are Absent, in every history that the kernel can have.
-use Rattle.std.proofs.Common.{◌≡◌, ℕ, List, [], ◌∷◌, length, Option, Some, None, option_map, refl, sym, ap, ◌∙◌, subst, Bool, true, false, ◌&&◌, ◌||◌, not, if◌then◌else◌, inl, inr, nat_eq}
+use Rattle.std.proofs.Common.{◌≡◌, ℕ, List, [], ◌∷◌, length, Option, Some, None, option_map, refl, sym, ap, ◌∙◌, Bool, true, false, ◌&&◌, ◌||◌, not, if◌then◌else◌, inl, inr, nat_eq}
 use Rattle.std.specs.Option.{unwrap_or}
 use Rattle.std.proofs.lemmas.Bool.{cases_Bool, false≢true, true≢false, and_parts}
 use Rattle.kern_ids.specs.declared.entries.Entry.{Entry}
 use Rattle.kern_ids.specs.declared.ids.PageId.{PageId}
 use Rattle.kern_ids.specs.declared.calls.Call.{Call}
 use Rattle.kern_ids.specs.declared.calls.Call.TheVariants.{Write, Read, Scan}
-use Rattle.kern_ids.specs.declared.replies.Move.{Move}
 use Rattle.kern_ids.specs.declared.replies.Reply.{Reply}
 use Rattle.kern_ids.specs.declared.replies.Reply.TheVariants.{Moved}
 use Rattle.kernel_model.specs.declared.place.Place.{Place}
@@ -14,7 +13,7 @@ use Rattle.kernel_model.specs.declared.place.Place.TheVariants.{Absent, Active}
 use Rattle.kernel_model.specs.declared.place.Placed.{Placed}
 use Rattle.kernel_model.specs.System.{System}
 use Rattle.kernel_model.specs.Valid.{IsValidBoot}
-use Rattle.kernel_model.specs.Events.{is_reply, reaches_page, task_of, accepted}
+use Rattle.kernel_model.specs.Events.{is_reply, reaches_page, task_of}
 use Rattle.kernel_model.specs.Mapping.{maps, mapped, unmaps}
 use Rattle.kernel_model.specs.State.{state, is_empty}
 use Rattle.kernel_model.specs.Contents.{empties}

@@ -1,16 +1,20 @@
-//! What the scan decides.
+//! What the scan decides, and the whole scan.
 
-ghost use Rattle.std.specs.Prelude.{◌≡◌, ◌∷◌, ◌<◌, ℕ, List, Some, length, slice_get, IsTrue, true};
+ghost use Rattle.std.specs.Prelude.{◌≡◌, ◌∷◌, ◌+◌, ◌<◌, ◌^◌, ℕ, List, None, Some, length, slice_get, IsTrue};
 ghost use Rattle.kern_ids.specs.declared.entries.Entry.{Entry};
+ghost use Rattle.kern_ids.specs.declared.calls.Call.TheVariants.{Scan as AskScan};
+ghost use Rattle.kern_ids.specs.declared.replies.Reply.TheVariants.{Purged as HasPurged};
+ghost use Rattle.kernel_model.specs.Answers.{answer, refusal};
+ghost use Rattle.kernel_model.specs.Histories.{fits};
 ghost use Rattle.kernel_model.specs.Scan.{scan};
 ghost use Rattle.page_queues.specs.Pages.{inactive, page_of};
 ghost use Rattle.purge_pick.specs.Picks.{picked, HasTokens};
-ghost use Rattle.kernel_tables.specs.Values.{values};
+ghost use Rattle.kernel_tables.specs.Values.{values, entry_of};
 ghost use Rattle.kernel_tables.specs.Stands.{Stands};
 ghost use Rattle.kernel_tables.specs.Moves as moves;
 
 use crate::parts::Parts;
-use kern_ids::ids::{ObjId, PageId};
+use kern_ids::ids::{ObjId, PageId, ThreadId};
 use kern_ids::replies::{Move, Reply};
 use page_queues::PageQueues;
 use pageout_scan::decide;
@@ -42,16 +46,6 @@ fn first_written(pages: &PageQueues, table: &ObjectTable) -> bool
     }
 }
 
-/// A move of a page, or nothing where there is no page.
-fn reply_moved(how: Move, first: Option<PageId>) -> Reply
-    ensures { result ≡ moves.reply_moved how first }
-{
-    match first {
-        Some(p) => Reply::Moved(how, p),
-        None => Reply::Idle,
-    }
-}
-
 /// The Inactive page that was placed first.
 fn first_inactive(pages: &PageQueues) -> Option<PageId>
     ensures { result ≡ moves.first_of (inactive pages.now) }
@@ -62,34 +56,90 @@ fn first_inactive(pages: &PageQueues) -> Option<PageId>
     }
 }
 
-/// What is answered to a scan with this plan.
-fn reply_of(pages: &PageQueues, plan: ScanPlan) -> Reply
-    ensures { result ≡ moves.reply_of pages.now plan }
-{
-    match plan {
-        ScanPlan::Enough => Reply::Enough,
-        ScanPlan::Deactivate => reply_moved(Move::Deactivated, pages.first_active()),
-        ScanPlan::Purge(o) => Reply::Purged(o),
-        ScanPlan::Reactivate => reply_moved(Move::Reactivated, first_inactive(pages)),
-        ScanPlan::Free => reply_moved(Move::Freed, first_inactive(pages)),
-        ScanPlan::Compress => reply_moved(Move::Compressed, first_inactive(pages)),
-        ScanPlan::Requeue => reply_moved(Move::Requeued, first_inactive(pages)),
-        ScanPlan::Idle => Reply::Idle,
-    }
-}
-
 impl Parts {
-    /// What an accepted scan is answered.
-    pub(crate) fn scan_decision(&self) -> Reply
+    /// What an accepted scan does.
+    fn scan_plan(&self) -> ScanPlan
         ghost past: { List Entry }
         requires stands { Stands (values self.now) past }
-        ensures { result ≡ scan self.now.boot past }
+        ensures { moves.reply_of self.now.objects.pages result ≡ scan self.now.boot past }
     {
         self.boot.valid();
         let ripe = ripe_object(&self.objects.tokens, &self.objects.groups);
         let written = first_written(&self.objects.pages, &self.objects.table);
         let params = self.boot.params();
-        let plan = decide(&self.objects.pages, &params, ripe, written);
-        reply_of(&self.objects.pages, plan)
+        decide(&self.objects.pages, &params, ripe, written)
+    }
+
+    /// The scan moves the first page of a queue, if there is one.
+    fn scan_first(&mut self, who: ThreadId, how: Move, first: Option<PageId>) -> Reply
+        ghost past: { List Entry }
+        requires stands { Stands (values self.old) past }
+        requires fits { IsTrue (fits self.old.boot who AskScan) }
+        requires accepted { refusal self.old.boot past who AskScan ≡ None }
+        requires decided { scan self.old.boot past ≡ moves.reply_moved how first }
+        requires room { self.old.entered + 1 < 2 ^ 64 }
+        ensures reply { result ≡ answer self.old.boot past who AskScan }
+        ensures stands { Stands (values self.new) (entry_of who AskScan result ∷ past) }
+        ensures boot { self.new.boot ≡ self.old.boot }
+    {
+        match first {
+            Some(p) => self.scan_move(who, how, p),
+            None => Reply::Idle,
+        }
+    }
+
+    /// The scan purges the object of the ripe purge.
+    fn scan_ripe(&mut self, who: ThreadId, _o: ObjId) -> Reply
+        ghost past: { List Entry }
+        requires stands { Stands (values self.old) past }
+        requires fits { IsTrue (fits self.old.boot who AskScan) }
+        requires accepted { refusal self.old.boot past who AskScan ≡ None }
+        requires decided { scan self.old.boot past ≡ HasPurged _o }
+        ensures reply { result ≡ answer self.old.boot past who AskScan }
+        ensures stands { Stands (values self.new) (entry_of who AskScan result ∷ past) }
+        ensures boot { self.new.boot ≡ self.old.boot }
+    {
+        match self.pick() {
+            Some(p) => self.scan_purge(who, p),
+            None => Reply::Nothing,
+        }
+    }
+
+    /// Scan, where it is not refused and fewer than 2^64 - 1 pages were deactivated.
+    pub(crate) fn scan(&mut self, who: ThreadId) -> Reply
+        ghost past: { List Entry }
+        requires stands { Stands (values self.old) past }
+        requires fits { IsTrue (fits self.old.boot who AskScan) }
+        requires accepted { refusal self.old.boot past who AskScan ≡ None }
+        requires room { self.old.entered + 1 < 2 ^ 64 }
+        ensures reply { result ≡ answer self.old.boot past who AskScan }
+        ensures stands { Stands (values self.new) (entry_of who AskScan result ∷ past) }
+        ensures boot { self.new.boot ≡ self.old.boot }
+    {
+        match self.scan_plan() {
+            ScanPlan::Enough => Reply::Enough,
+            ScanPlan::Deactivate => {
+                let first = self.objects.pages.first_active();
+                self.scan_first(who, Move::Deactivated, first)
+            }
+            ScanPlan::Purge(o) => self.scan_ripe(who, o),
+            ScanPlan::Reactivate => {
+                let first = first_inactive(&self.objects.pages);
+                self.scan_first(who, Move::Reactivated, first)
+            }
+            ScanPlan::Free => {
+                let first = first_inactive(&self.objects.pages);
+                self.scan_first(who, Move::Freed, first)
+            }
+            ScanPlan::Compress => {
+                let first = first_inactive(&self.objects.pages);
+                self.scan_first(who, Move::Compressed, first)
+            }
+            ScanPlan::Requeue => {
+                let first = first_inactive(&self.objects.pages);
+                self.scan_first(who, Move::Requeued, first)
+            }
+            ScanPlan::Idle => Reply::Idle,
+        }
     }
 }

@@ -16,6 +16,7 @@ mod purges;
 mod range_access;
 mod refusals;
 mod scans;
+mod states;
 pub mod tables;
 mod tasks;
 mod ticks;

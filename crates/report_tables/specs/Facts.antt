@@ -1,5 +1,5 @@
 -- What stands after a history.
-use Rattle.std.specs.Prelude.{ℕ, List, length, Bool, Option, map, slice_get, slice_index_or}
+use Rattle.std.specs.Prelude.{ℕ, List, length, map, slice_get, slice_index_or}
 use Rattle.std.specs.Option.{option_map_or}
 use Rattle.kern_ids.specs.declared.entries.Entry.{Entry}
 use Rattle.kern_ids.specs.declared.replies.Reply.{Reply}

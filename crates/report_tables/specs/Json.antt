@@ -1,8 +1,6 @@
 -- What stands after a history, as a JSON value.
 use Rattle.std.specs.Prelude.{ℕ, List, [], ◌∷◌, map, codes, Option, Some, None}
-use Rattle.kern_ids.specs.declared.replies.Counts.{Counts}
 use Rattle.kern_ids.specs.declared.replies.FrameCounts.{FrameCounts}
-use Rattle.kern_ids.specs.declared.replies.QueueCounts.{QueueCounts}
 use Rattle.kern_ids.specs.declared.replies.TokenCounts.{TokenCounts}
 use Rattle.serde_json.specs.Data.{Data, number, unsigned, string, array, object, member, no_members}
 use Rattle.serde_json.specs.View.{items_of}

@@ -1,7 +1,6 @@
 -- The table of what stands after a history, and its lines.
-use Rattle.std.specs.Prelude.{ℕ, List, [], ◌∷◌, ◌++◌, map, codes, Bool, true, false, Option, Some, None, if◌then◌else◌}
+use Rattle.std.specs.Prelude.{ℕ, List, [], ◌∷◌, ◌++◌, map, codes, Bool, Option, Some, None, if◌then◌else◌}
 use Rattle.std.specs.Fmt.{decimal}
-use Rattle.kern_ids.specs.declared.replies.Reply.{Reply}
 use Rattle.kern_ids.specs.declared.replies.Reply.TheVariants.{Pages, Frames, Tokens}
 use Rattle.line_text.specs.Cut.{Word, line_of, text_of}
 use Rattle.history_text.specs.Entries.{state_word, reply_words}

@@ -1,6 +1,6 @@
 //! What stands after a history, found by looking back through it.
 
-ghost use Rattle.std.specs.Prelude.{◌≡◌, ◌≤◌, reverse, map, IfOk, length};
+ghost use Rattle.std.specs.Prelude.{◌≡◌, reverse, map, IfOk};
 ghost use Rattle.kernel_model.specs.Groups.{objects_of};
 ghost use Rattle.kernel_model.specs.Mapping.{tasks_of};
 ghost use Rattle.kernel_model.specs.Pages as page_spec;
@@ -259,7 +259,8 @@ fn token_counts(alloc: Global, boot: &Boot, entries: &[Entry]) -> Result<TokenCo
 }
 
 impl Facts {
-    /// What stands after these entries. It looks through them once for each task and each object.
+    /// What stands after these entries. It looks back through them several times for each task and each
+    /// object.
     pub fn of_history(alloc: Global, boot: &Boot, entries: &[Entry]) -> Result<Facts, NoMemory>
         ensures { IfOk result (λ f. f ≡ spec.facts_of boot.now (reverse entries.now)) }
     {

@@ -11,6 +11,8 @@ mod reasons;
 mod rows;
 mod table;
 mod tally;
+#[cfg(test)]
+mod tests;
 mod trial;
 mod why;
 

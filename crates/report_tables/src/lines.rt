@@ -1,8 +1,8 @@
 //! Parts of lines, and lines one after another.
 
-ghost use Rattle.std.specs.Prelude.{◌≡◌, ◌≤◌, ◌<◌, ◌^◌, ◌+◌, ◌++◌, ◌∷◌, [], length, OnOk};
+ghost use Rattle.std.specs.Prelude.{◌≡◌, ◌≤◌, ◌+◌, ◌++◌, length, OnOk};
 ghost use Rattle.std.specs.Fmt.{decimal};
-ghost use Rattle.line_text.specs.Cut.{line_of, spaced};
+ghost use Rattle.line_text.specs.Cut.{spaced};
 ghost use Rattle.history_text.specs.Entries.{reply_words, state_word};
 ghost use Rattle.report_tables.specs.Table.{line_text, activity_word};
 

@@ -1,13 +1,12 @@
 //! Why an entry was answered as it was, found by looking back through the entries before it.
 
-ghost use Rattle.std.specs.Prelude.{◌≡◌, ◌||◌, ◌&&◌, not, reverse, option_map, IfOk};
+ghost use Rattle.std.specs.Prelude.{◌≡◌, reverse, option_map, IfOk};
 ghost use Rattle.kernel_model.specs.Deadlines.{ripe_queue};
-ghost use Rattle.slow_kernel.specs.Tables as tables;
 ghost use Rattle.slow_kernel.specs.VictimTables.{limit_in};
 ghost use Rattle.report_tables.specs.Reasons as spec;
 
 use crate::reason::Reason;
-use kern_ids::calls::{Call, Queue, State, Wish};
+use kern_ids::calls::{Call, State, Wish};
 use kern_ids::entries::{Entry, NoMemory};
 use kern_ids::ids::{ObjId, TaskId};
 use kern_ids::replies::{Cause, Reply};

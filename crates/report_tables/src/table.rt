@@ -1,8 +1,7 @@
 //! The table of what stands after a history.
 
-ghost use Rattle.std.specs.Prelude.{◌≡◌, ◌≤◌, ◌+◌, ◌++◌, ◌∷◌, [], length, map, IfOk, OnOk, Some};
-ghost use Rattle.std.specs.Fmt.{decimal};
-ghost use Rattle.line_text.specs.Cut.{line_of, spaced, text_of};
+ghost use Rattle.std.specs.Prelude.{◌≡◌, ◌≤◌, ◌+◌, ◌++◌, length, map, IfOk, OnOk, Some};
+ghost use Rattle.line_text.specs.Cut.{spaced, text_of};
 ghost use Rattle.report_tables.specs.Table.{line_text, head_words, life_words, task_words, held_words, object_words, table_text};
 
 use crate::history_facts::Facts;

@@ -1,6 +1,6 @@
 //! The line of a trial.
 
-ghost use Rattle.std.specs.Prelude.{◌≡◌, ◌≤◌, ◌+◌, ◌++◌, ◌∷◌, [], length, count_by};
+ghost use Rattle.std.specs.Prelude.{◌≡◌, ◌++◌, ◌∷◌, []};
 ghost use Rattle.report_tables.specs.Summary.{is_refusal, is_purging, is_killing, is_freeing, is_compressing, replies, tally, tally_words, summary_text};
 ghost use Rattle.line_text.specs.Cut.{line_of};
 

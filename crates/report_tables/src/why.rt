@@ -1,8 +1,7 @@
 //! An entry and why it was answered as it was.
 
-ghost use Rattle.std.specs.Prelude.{◌≡◌, ◌≤◌, ◌+◌, ◌++◌, ◌∷◌, [], length, reverse, option_map, codes, IfOk};
+ghost use Rattle.std.specs.Prelude.{◌≡◌, ◌≤◌, ◌++◌, length, reverse, option_map, codes, IfOk};
 ghost use Rattle.std.specs.Fmt.{decimal};
-ghost use Rattle.line_text.specs.Cut.{line_of};
 ghost use Rattle.history_text.specs.Entries as entry_spec;
 ghost use Rattle.report_tables.specs.Table.{line_text};
 ghost use Rattle.report_tables.specs.Reasons as spec;

@@ -8,7 +8,7 @@ use Rattle.kernel_model.specs.Scenario.{Plan}
 use Rattle.line_text.specs.Cut.{Word}
 use Rattle.scenario_text.specs.Text.{scenario_text, HasText}
 use Rattle.history_text.specs.History.{history_text}
-use Rattle.commands.specs.Commands.{command_of}
+use Rattle.commands.specs.Commands.{asks_reading}
 use Rattle.commands.specs.Messages.{read_fault}
 use Rattle.commands.specs.Calls.{WritesOutcome, WritesFront as WritesSerialFront, IsReadFault, IsAccepted as IsSerialAccepted}
 use Rattle.run_command.specs.Outcome.{IsHistoryOf}
@@ -42,7 +42,7 @@ pub record IsSerialResult (words : List Word) (old new : Option (List ℕ)) (fau
   pub read : status ≡ 4 → IsReadFault words faults later × Appends held holds read_fault
   pub write : status ≡ 5 → Rose sunk deeper × WritesSerialFront words old new faults later held holds
   pub memory : status ≡ 9 → Keeps held holds
-  pub statuses : Contains (0 ∷ 2 ∷ 3 ∷ 4 ∷ 5 ∷ 7 ∷ 9 ∷ []) status
-  pub unread : command_of words ≡ None → Keeps old new × (later ≡ faults)
+  pub statuses : Contains (0 ∷ 2 ∷ 3 ∷ 4 ∷ 5 ∷ 6 ∷ 7 ∷ 8 ∷ 9 ∷ []) status
+  pub unread : asks_reading words ≡ false → Keeps old new × (later ≡ faults)
   pub complete : IsSerialAccepted words old → ¬ Rose faults later → ¬ Rose sunk deeper → (status ≡ 0) ⊎ (status ≡ 9)
   pub grows : (faults ≤ later) × (sunk ≤ deeper)

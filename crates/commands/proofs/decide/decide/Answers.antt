@@ -1,21 +1,20 @@
-use Rattle.std.proofs.Common.{ap, sym, ◌≡◌, ◌≤◌, ◌∙◌, List, ℕ, Err, length, arith}
+use Rattle.std.proofs.Common.{rules, ◌≡◌, Some}
 use Rattle.std.proofs.lemmas.Result.{IfOk-weaker}
-use Rattle.scenario_text.specs.Grammar.{scenario_of}
-use Rattle.commands.specs.Commands.{limit_of}
-use Rattle.commands.specs.Outcome.{answered}
+use Rattle.commands.specs.declared.command.Command.TheVariants.{Make}
+use Rattle.commands.specs.Commands.{command_of}
+use Rattle.commands.specs.Outcome.{made_outcome}
 use Rattle.commands.specs.Answers.{due_of}
 use Rattle.commands.specs.Calls.{IsDue}
-use Rattle.commands.proofs.Due.{whole_due, over_due-named}
+use Rattle.commands.proofs.Due.{keeps_same, made_is_due}
 use Rattle.commands.proofs.decide.decide.Goals as goal
 
-pub returns-in-Ok-clause-due : goal.returns-in-Ok-clause-due
-returns-in-Ok-clause-due g c =
-    let few : length c.in-Ok.input.items ≤ limit_of c.in-Some.command = omega (arith, c.in-Ok.input.ok.0, c.in-Ok.ensures.within, c.limit-limit.ensures.value) in
-    IfOk-weaker c.answer_input.result (λ a. due_of a ≡ answered c.in-Some.command (scenario_of c.deref.result.now))
-    (λ a. IsDue c.args.words.now (g.S.Source.left c.args.source.now) (g.S.Source.left c.read_to_limit.new.source) (g.S.Source.fault_count c.args.source.now) (g.S.Source.fault_count c.read_to_limit.new.source) (due_of a))
-    (λ a e. whole_due c.args.words.now c.in-Some.command _ _ _ _ c.in-Ok.input.items (due_of a) (sym c.in-Some.is ∙ c.command_of.ensures) few c.in-Ok.ensures.whole (e ∙ ap (λ (b : List ℕ). answered c.in-Some.command (scenario_of b)) c.deref.ensures.value))
-    c.answer_input.ensures
-
-pub returns-in-Err-Over-clause-due : goal.returns-in-Err-Over-clause-due
-returns-in-Err-Over-clause-due g c =
-    over_due-named c.args.words.now c.in-Some.command c.limit-limit.result _ _ _ _ (sym c.in-Some.is ∙ c.command_of.ensures) c.limit-limit.ensures.value (c.in-Err-Over.ensures.over (ap (λ e. Err e) c.in-Err-Over.field-0-is))
+pub returns-in-Some-Make-clause-due : goal.returns-in-Some-Make-clause-due
+returns-in-Some-Make-clause-due g c =
+    let making = c.in-Some-Make.making in
+    let seed = c.in-Some-Make.seed in
+    let n = c.in-Some-Make.n in
+    let left = g.S.Source.left c.args.source.now in
+    let faults = g.S.Source.fault_count c.args.source.now in
+    let asked : command_of c.args.words.now ≡ Some (Make making seed n) = search rules in
+    IfOk-weaker c.answer_made.result (λ a. due_of a ≡ made_outcome making seed n) (λ a. IsDue c.args.words.now left left faults faults (due_of a))
+    (λ a e. made_is_due c.args.words.now making seed n left left faults faults (due_of a) asked (keeps_same left) e) c.answer_made.ensures

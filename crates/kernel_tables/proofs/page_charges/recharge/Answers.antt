@@ -1,4 +1,4 @@
-use Rattle.std.proofs.Common.{◌≡◌, sym, ◌∙◌, subst}
+use Rattle.std.proofs.Common.{sym, ◌∙◌, subst}
 use Rattle.kern_ids.specs.declared.calls.State.{State}
 use Rattle.kernel_tables.specs.Moves.{IsChargeable}
 use Rattle.kernel_tables.proofs.page_charges.recharge.Goals as goal

@@ -1,4 +1,4 @@
-use Rattle.std.proofs.Common.{◌≡◌, sym, subst}
+use Rattle.std.proofs.Common.{sym, subst}
 use Rattle.kernel_model.specs.declared.place.Place.{Place}
 use Rattle.vm_object.specs.Objects.{object_at}
 use Rattle.kernel_tables.specs.Moves.{place_touched, IsChargeable}

@@ -23,3 +23,8 @@ pub returns-in-Run-clause-front : goal.returns-in-Run-clause-front
 returns-in-Run-clause-front g c =
     front_of c.write_pieces.result _ _ (c.new.result ++ c.new-in-Run.result) (due_of c.args.self.now).1
     (ap₂ (λ (a b : List ℕ). a ++ b) c.new.ensures c.new-in-Run.ensures ∙ sym (ap (λ (a : Answer). (due_of a).1) c.in-Run.is)) c.write_pieces.ensures.front
+
+pub returns-in-Counted-clause-front : goal.returns-in-Counted-clause-front
+returns-in-Counted-clause-front g c =
+    front_of c.write_whole.result _ _ c.as_slice.result.now (due_of c.args.self.now).1
+    (c.as_slice.ensures.value ∙ c.summary.ensures ∙ sym (ap (λ (a : Answer). (due_of a).1) c.in-Counted.is)) c.write_whole.ensures.front

@@ -1,4 +1,4 @@
-use Rattle.std.proofs.Common.{◌≡◌, ◌+◌, ◌<◌, ◌≤◌, sym, ap, ◌∙◌, false, true, arith}
+use Rattle.std.proofs.Common.{◌≡◌, ◌+◌, ◌≤◌, sym, ap, ◌∙◌, false, true, arith}
 use Rattle.kernel_model.specs.State.{is_empty, state}
 use Rattle.kernel_tables.specs.Values.{values}
 use Rattle.kernel_tables.proofs.Accesses.{can-first, can-last}

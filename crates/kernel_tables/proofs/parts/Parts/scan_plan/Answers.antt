@@ -1,7 +1,7 @@
 use Rattle.kernel_tables.specs.Values.{values}
 use Rattle.kernel_tables.proofs.Choices.{has-tokens}
 use Rattle.kernel_tables.proofs.ScanDecision.{first-object, plan-is}
-use Rattle.kernel_tables.proofs.parts.Parts.scan_decision.Goals as goal
+use Rattle.kernel_tables.proofs.parts.Parts.scan_plan.Goals as goal
 
 pub ripe_object-ripe-requires : goal.ripe_object-ripe-requires
 ripe_object-ripe-requires g c = has-tokens (values c.args.self.now) g.past c.requires c.valid.ensures
@@ -11,5 +11,5 @@ first_written-written-requires g c = first-object (values c.args.self.now) g.pas
 
 pub returns : goal.returns
 returns g c =
-    rw (c.reply_of.ensures, c.decide-plan.ensures.plan, c.params-params.ensures.value, c.ripe_object-ripe.ensures, c.first_written-written.ensures)
+    rw (c.decide.ensures.plan, c.params-params.ensures.value, c.ripe_object-ripe.ensures, c.first_written-written.ensures)
     (plan-is (values c.args.self.now) g.past c.valid.ensures c.requires)

@@ -1,0 +1,2 @@
+pub mod DrawnOrder
+pub mod Turns
