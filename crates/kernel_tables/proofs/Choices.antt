@@ -198,7 +198,7 @@ queue_at-list Fifo g l =
     let b : nat_lt (16 + g) 16 ≡ false = grind (arith, nat_tests) in
     (omega arith, rw (a, b) refl)
 
-queue_of-member : (groups : List (List ℕ)) → AreGroups groups → (q : Queue) (g o : ℕ) → g < 8 → Has (members groups q g) o → queue_of o groups ≡ Some q
+pub queue_of-member : (groups : List (List ℕ)) → AreGroups groups → (q : Queue) (g o : ℕ) → g < 8 → Has (members groups q g) o → queue_of o groups ≡ Some q
 queue_of-member groups are q g o l h =
     let at = queue_at-list q g l in
     let inside : first_list q + g < length groups = omega (arith, at.0, are.count) in
@@ -208,7 +208,7 @@ head-has : (xs : List ℕ) (o : ℕ) → slice_get xs 0 ≡ Some o → Has xs o
 head-has [] o h = absurd (cc)
 head-has (x ∷ xs) o h = inl (cc)
 
-same_queue-itself : (q : Queue) → same_queue q q ≡ true
+pub same_queue-itself : (q : Queue) → same_queue q q ≡ true
 same_queue-itself Obsolete = refl
 same_queue-itself Lifo = refl
 same_queue-itself Fifo = refl

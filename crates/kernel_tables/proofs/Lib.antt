@@ -43,3 +43,10 @@ pub mod Accesses
 pub mod ReadWrite
 pub mod HeldMapped
 pub mod ScanDecision
+pub mod Threads
+pub mod UnmapSteps
+pub mod UnmapCall
+pub mod Parting
+pub mod Ending
+pub mod EndCall
+pub mod EndEntries

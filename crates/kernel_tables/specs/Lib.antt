@@ -8,3 +8,4 @@ pub mod Emptying
 pub mod Picked
 pub mod Charges
 pub mod Settings
+pub mod Ends

@@ -6,6 +6,7 @@ mod asks;
 mod beginnings;
 mod charging;
 mod decisions;
+mod ends;
 pub mod law;
 mod mapping;
 mod page_charges;
