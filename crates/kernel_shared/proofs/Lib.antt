@@ -1,3 +1,1 @@
-pub mod Needs
-pub mod Effects
 pub mod Passing

@@ -1,33 +1,25 @@
--- Facts on passes, ranges and first bodies.
-use Rattle.std.proofs.Common.{◌≡◌, ℕ, zero, suc, ◌+◌, ◌<◌, ◌≤◌, List, [], ◌∷◌, ◌++◌, length, map, reverse, Option, Some, None, Bool, true, false, IsTrue, refl, sym, ap, ap₂, ◌∙◌, subst, arith, slice_get, inl, inr, append_assoc, append-nil}
+-- Facts on passes, held objects and first bodies.
+use Rattle.std.proofs.Common.{◌≡◌, ℕ, zero, suc, ◌+◌, ◌<◌, List, [], ◌∷◌, ◌++◌, length, reverse, Option, Some, None, true, IsTrue, refl, sym, ap, ap₂, ◌∙◌, subst, arith, slice_get, append_assoc, append-nil}
 use Rattle.std.specs.Prelude.{is_some, nat_lt, ◌&&◌}
-use Rattle.std.specs.List.{range_with_len, AllByRecursion}
-use Rattle.std.proofs.lemmas.Bool.{and_parts, true≢false}
+use Rattle.std.specs.List.{Contains, AllByRecursion}
+use Rattle.std.proofs.lemmas.Bool.{and_parts}
 use Rattle.std.proofs.lemmas.Bool.Decides.{nat_tests}
 use Rattle.kern_ids.specs.declared.entries.Entry.{Entry}
 use Rattle.kern_ids.specs.declared.calls.Call.{Call}
-use Rattle.kern_ids.specs.declared.calls.Call.TheVariants.{Read, Write}
 use Rattle.kern_ids.specs.declared.replies.Reply.{Reply}
 use Rattle.kernel_model.specs.System.{System}
-use Rattle.kernel_model.specs.Answers.{answer, out_of_range, refusal, causes}
-use Rattle.kernel_model.specs.Contents.{byte}
-use Rattle.kernel_model.specs.Events.{task_of, is_reply}
+use Rattle.kernel_model.specs.Answers.{answer}
+use Rattle.kernel_model.specs.Events.{task_of}
 use Rattle.kernel_model.specs.Histories.{fits, names_fit, same, is_task_call}
 use Rattle.kernel_model.specs.Valid.{IsValidBoot}
-use Rattle.kernel_model.proofs.Laws.Answers.{refused, gets, answer-cases, first_some-none}
-use Rattle.kernel_model.specs.Lists.{some_if}
-use Rattle.kern_ids.specs.declared.replies.Refusal.TheVariants.{Range}
-use Rattle.kernel_core.specs.Kernels.{SeesBytes}
-use Rattle.page_store.specs.Contents.{Contents, nothing, byte_at}
-use Rattle.page_store.proofs.ContentsLemmas.{byte_at-bytes_of, bytes_of-alike, bytes_of-zero}
-use Rattle.kernel_model.proofs.Laws.Contents.{byte-none}
+use Rattle.page_store.specs.Contents.{Contents, nothing}
 use Rattle.turn_lock.specs.Histories.{StartsWith}
-use Rattle.kernel_shared.specs.Bodies.{content}
-use Rattle.kernel_shared.specs.Calls.{KernelTable, KernelPass, IsIdleOf, IsSamePass, HasMade, entry_of}
-use Rattle.kernel_shared.specs.Steps.{IsWanted}
-use Rattle.kernel_shared.proofs.Needs.{named-declared}
-use Rattle.kernel_shared.specs.Ranges.{IsSeenOf, IsWriteInRange}
-use Rattle.kernel_shared.specs.Touches.{NeedsAtMost, named_number, needed_number}
+use Rattle.object_effects.specs.Bodies.{content, made}
+use Rattle.kernel_shared.specs.Calls.{Bytes, KernelTable, KernelPass, IsIdleOf, IsSamePass, HasMade, entry_of}
+use Rattle.kernel_shared.specs.Steps.{IsWanted, MayTouch, held_after}
+use Rattle.object_effects.proofs.Needs.{named-declared, touched-needed}
+use Rattle.object_effects.proofs.Effects.{content-first, content-left}
+use Rattle.object_effects.specs.Touches.{NeedsAtMost, bytes_left, touched, named_number, needed_number}
 
 -- a thread whose call fits is declared
 pub who-below : (boot : System) (who : ℕ) (call : Call) → IsValidBoot boot → IsTrue (fits boot who call) → who < 32
@@ -36,46 +28,6 @@ who-below boot who call v f =
     let declared = (and_parts (nat_lt who (length boot.sides)) (same (is_task_call call) (is_some (task_of boot who))) parts.0).0 in
     let l : who < length boot.sides = grind (arith, nat_tests, declared) in
     let few = v.few_sides in omega arith
-
-some_none : {x : ℕ} → Some x ≡ None → ⊥
-some_none h = cc
-
--- a call that needs no object reads none
-pub sees-none : (boot : System) (h : List Entry) (who : ℕ) (call : Call) (seen : List ℕ) → needed_number boot (reverse h) who call ≡ None → SeesBytes boot h call seen
-sees-none boot h who (Read o off len) seen n = absurd (some_none n)
-sees-none boot h who call seen n = tt {0}
-
-map_range : (f g : ℕ → ℕ) (off len : ℕ) → ((p : ℕ) → off ≤ p → p < off + len → f p ≡ g p) → map f (range_with_len off len) ≡ map g (range_with_len off len)
-map_range f g off zero h = refl
-map_range f g off (suc n) h = ap₂ (λ (x : ℕ) (xs : List ℕ). x ∷ xs) (h off (omega arith) (omega arith)) (map_range f g (off + 1) n (λ p l m. h p (omega arith) (omega arith)))
-
-sees_range : (h : List Entry) (x o off len : ℕ) (body : List (ℕ × ℕ)) → x ≡ o → body ≡ content h o → off + len ≤ 1048576 → map (byte_at body) (range_with_len off len) ≡ map (byte (reverse h) x) (range_with_len off len)
-sees_range h x o off len body same is inside =
-    map_range (byte_at body) (byte (reverse h) x) off len (λ p l m. ap (λ (b : List (ℕ × ℕ)). byte_at b p) is ∙ (byte_at-bytes_of (byte (reverse h) o) p (omega arith) ∙ ap (λ (y : ℕ). byte (reverse h) y p) (sym same)))
-
--- what was seen in the body is what the history gives to the object
-pub sees-held : (boot : System) (h : List Entry) (call : Call) (o : ℕ) (body : List (ℕ × ℕ)) (seen : List ℕ) → NeedsAtMost o (named_number call) → body ≡ content h o → IsSeenOf boot call body seen → SeesBytes boot h call seen
-sees-held boot h (Read x off len) o body seen m is s = λ good. (s good).1 ∙ sees_range h x o off len body m is (s good).0
-sees-held boot h call o body seen m is s = tt {0}
-
-some_if-none : (b : Bool) {A : Type 0} (x : A) → some_if b x ≡ None → b ≡ false
-some_if-none true x h = absurd (cc)
-some_if-none false x h = refl
-
-in_range : (boot : System) (past : List Entry) (who : ℕ) (call : Call) → refusal boot past who call ≡ None → out_of_range boot call ≡ false
-unfolding refusal
-in_range boot past who call h = some_if-none (out_of_range boot call) Range (first_some-none (causes boot past who call) (some_if (out_of_range boot call) Range) (inr (inr (inr (inr (inr (inl refl)))))) h)
-
-accepted_in_range : (boot : System) (past : List Entry) (who : ℕ) (call : Call) → is_reply (answer boot past who call) ≡ true → out_of_range boot call ≡ false
-accepted_in_range boot past who call h = elim (answer-cases boot past who call) [
-  | refused why r a ↦ absurd (true≢false (sym h ∙ ap is_reply a))
-  | gets r a ↦ in_range boot past who call r
-]
-
--- a Write that is accepted is in range
-pub write-in_range : (boot : System) (past : List Entry) (who : ℕ) (call : Call) (reply : Reply) → reply ≡ answer boot past who call → IsWriteInRange boot call reply
-write-in_range boot past who (Write o off bytes) reply e = λ a. accepted_in_range boot past who (Write o off bytes) (ap is_reply (sym e) ∙ a)
-write-in_range boot past who call reply e = tt {0}
 
 some_body : (b x : Contents) → Some b ≡ Some x → b ≡ x
 some_body b x e = cc
@@ -88,8 +40,7 @@ first_body (b ∷ bs) h (suc i) x e = first_body bs h.1 i x e
 -- a body with nothing in it is what its object has at first
 pub nothing-first : (bodies : List Contents) → AllByRecursion (λ body. body ≡ nothing) bodies → (i : ℕ) (x : Contents) → slice_get bodies i ≡ Some x → x.bytes ≡ content [] i
 nothing-first bodies h i x e =
-    ap (λ (c : Contents). c.bytes) (first_body bodies h i x e)
-    ∙ sym (bytes_of-alike (byte [] i) (λ _. 0) (λ place inside. byte-none i place) ∙ bytes_of-zero)
+    ap (λ (c : Contents). c.bytes) (first_body bodies h i x e) ∙ sym (content-first i)
 
 -- what begins with something still does, with more at its end
 pub starts-more : (later long short es : List Entry) → later ≡ long ++ es → StartsWith long short → StartsWith later short
@@ -126,3 +77,15 @@ named_first boot call (Some o) e f = (named-declared boot call o f e, subst (Nee
 -- the object that the call names is declared
 pub wanted-first : (boot : System) (who : ℕ) (call : Call) → IsTrue (fits boot who call) → IsWanted boot call (named_number call)
 wanted-first boot who call f = named_first boot call (named_number call) refl (and_parts (nat_lt who (length boot.sides) && same (is_task_call call) (is_some (task_of boot who))) (names_fit boot call) f).1
+
+-- the body that the object is to have, once the entry of the call was made
+pub put-held : (boot : System) (seen later : List Entry) (who o : ℕ) (call : Call) (reply : Reply) (was now : Bytes) (object after : Option (ℕ × Bytes)) → NeedsAtMost o (needed_number boot (reverse seen) who call)
+    → reply ≡ answer boot (reverse seen) who call → later ≡ seen ++ made who call reply ∷ [] → object ≡ Some (o, was) → after ≡ held_after later object → was ≡ content seen o → now ≡ bytes_left call reply was → after ≡ Some (o, now)
+put-held boot seen later who o call reply was now object after m r l h a w n =
+    let left : content later o ≡ bytes_left call reply (content seen o) = ap (λ (es : List Entry). content es o) l ∙ content-left boot seen who o call reply r m in
+    a ∙ (ap (held_after later) h ∙ ap (λ (c : Bytes). Some (o, c)) (left ∙ (ap (bytes_left call reply) (sym w) ∙ sym n)))
+
+-- the entry of a call touches nothing but the object that it needs
+pub needed-touches : (boot : System) (past : List Entry) (who : ℕ) (call : Call) (object : Option (ℕ × Bytes)) → MayTouch (needed_number boot past who call) object
+    → (i : ℕ) → Contains (touched (made who call (answer boot past who call))) i → (c : Bytes) × (object ≡ Some (i, c))
+needed-touches boot past who call object m i k = subst (λ (n : Option ℕ). MayTouch n object) (touched-needed boot past who call i k) m

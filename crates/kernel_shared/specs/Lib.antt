@@ -1,6 +1,2 @@
-pub mod Bodies
-pub mod Touches
-pub mod Untouched
-pub mod Ranges
 pub mod Calls
 pub mod Steps

@@ -8,8 +8,8 @@ use Rattle.kernel_model.specs.Answers.{answer}
 use Rattle.kernel_model.specs.Histories.{Legal}
 use Rattle.kernel_shared.specs.declared.shared.Look.{Look}
 use Rattle.kernel_shared.specs.declared.shared.Look.TheVariants.{Made, Needs}
-use Rattle.kernel_shared.specs.Bodies.{content}
-use Rattle.kernel_shared.specs.Touches.{NeedsAtMost, named_number}
+use Rattle.object_effects.specs.Bodies.{content}
+use Rattle.object_effects.specs.Touches.{NeedsAtMost, named_number}
 use Rattle.kernel_shared.specs.Calls.{Bytes, KernelTable, KernelPass, HasMade, entry_of}
 
 -- the bytes that the call needs are those of the object that is held

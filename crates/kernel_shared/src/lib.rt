@@ -3,7 +3,6 @@
 //! outside the turn.
 #![tactic(auto)]
 
-mod effect;
 pub mod gate;
 mod methods;
 pub mod shared;

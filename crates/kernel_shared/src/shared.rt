@@ -8,12 +8,10 @@ ghost use Rattle.kernel_model.specs.Valid.{IsValidBoot};
 ghost use Rattle.kernel_core.specs.Kernels.{SeesBytes};
 ghost use Rattle.turn_lock.specs.Histories.{StartsWith, longer, entries_of, list_in};
 ghost use Rattle.turn_lock.specs.Passes.{IsPassOf, HoldsNothing, IsNewPassOf, gathered_by, numbers_of, weight_of};
-ghost use Rattle.page_store.specs.Contents.{nothing};
 ghost use Rattle.kernel_shared.specs.Calls.{IsIdleOf, IsSamePass, HasMade, pass_count};
 ghost use Rattle.kernel_shared.specs.Steps.{IsEntryMade, MayTouch, IsTried, IsLooked};
-ghost use Rattle.kernel_shared.specs.Touches.{NeedsAtMost, named_number, needed_number};
+ghost use Rattle.object_effects.specs.Touches.{NeedsAtMost, named_number, needed_number};
 
-use crate::effect::{apply, look, named_number, needed_number, no_bytes, prepare};
 use crate::gate::{Gate, Point};
 use crate::value::Core;
 use kern_ids::calls::Call;
@@ -23,6 +21,9 @@ use kern_ids::lines::ByteLine;
 use kern_ids::replies::Reply;
 use kernel_core::kernel::Kernel;
 use kernel_model::boot::Boot;
+use object_effects::effect::{
+    apply, empty_bodies, look, named_number, needed_number, no_bytes, prepare,
+};
 use page_store::Body;
 use std::alloc::Global;
 use std::marker::Model;
@@ -60,18 +61,6 @@ impl Model for SharedKernel {
 enum Look {
     Made(Reply),
     Needs(u32),
-}
-
-// A body for each object, with nothing in it.
-fn empty_bodies(alloc: Global, objects: usize) -> Result<Vec<Body>, NoMemory>
-    ensures count { IfOk result (λ v. length v.items ≡ objects) }
-    ensures empty { IfOk result (λ v. AllByRecursion (λ body. body ≡ nothing) v.items) }
-{
-    let mut bodies = Vec::new(alloc);
-    for _i in 0..objects {
-        bodies.push(Body::new(alloc)?).map_err(|_| NoMemory)?;
-    }
-    Ok(bodies)
 }
 
 // How many passes a kernel has: one a thread, and at least one.

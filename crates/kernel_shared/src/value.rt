@@ -15,9 +15,9 @@ pub struct Core {
 impl Ordered<Body> for Core {
     ghost use Rattle.std.specs.Prelude.{reverse};
     ghost use Rattle.kernel_model.specs.Pages.{free};
-    ghost use Rattle.kernel_shared.specs.Bodies.{content};
-    ghost use Rattle.kernel_shared.specs.Touches.{touched};
-    ghost use Rattle.kernel_shared.specs.Untouched.{content-untouched};
+    ghost use Rattle.object_effects.specs.Bodies.{content};
+    ghost use Rattle.object_effects.specs.Touches.{touched};
+    ghost use Rattle.object_effects.specs.Untouched.{content-untouched};
 
     type Base = Boot;
 

@@ -7,26 +7,21 @@ ghost use Rattle.kernel_model.specs.Histories.{fits, Legal};
 ghost use Rattle.kernel_model.specs.Turns.{answered, serial};
 
 use kern_ids::calls::Call;
-use kern_ids::entries::{Entry, EntryList, NoMemory};
+use kern_ids::entries::{EntryList, NoMemory};
 use kern_ids::ids::ThreadId;
 use kernel_model::scenario::Scenario;
+use one_thread::kernel::OneThread;
 use scenario_turns::Turns;
-use slow_kernel::kernel::SlowKernel;
 use std::alloc::Global;
 
-// Answers a call and appends its entry.
-fn take_turn(kernel: &mut SlowKernel, who: ThreadId, call: &Call) -> Result<(), NoMemory>
+// Makes a call.
+fn take_turn(kernel: &mut OneThread, who: ThreadId, call: &Call) -> Result<(), NoMemory>
     requires { IsTrue (fits kernel.old.boot who call.now) }
     ensures boot { kernel.new.boot ≡ kernel.old.boot }
-    ensures ok { OnOk result (reverse kernel.new.list ≡ answered kernel.old.boot (reverse kernel.old.list) (who, call.now) ∷ reverse kernel.old.list) }
+    ensures ok { OnOk result (reverse kernel.new.history ≡ answered kernel.old.boot (reverse kernel.old.history) (who, call.now) ∷ reverse kernel.old.history) }
 {
-    kernel.legal();
-    let reply = kernel.answer(who, call)?;
-    kernel.push(Entry {
-        who,
-        call: *call,
-        reply,
-    })
+    kernel.call(who, *call)?;
+    Ok(())
 }
 
 /// The history of the scenario's turns.
@@ -35,7 +30,7 @@ pub fn run_serial(alloc: Global, scenario: &Scenario) -> Result<EntryList, NoMem
     ensures legal { IfOk result (λ h. Legal scenario.now.boot h.list) }
 {
     scenario.valid();
-    let mut kernel = SlowKernel::new(alloc, scenario.boot())?;
+    let mut kernel = OneThread::boot(alloc, scenario.boot())?;
     let mut turns = Turns::new(alloc, scenario)?;
     'turns: while let Some(turn) = turns.next() {
         take_turn(&mut kernel, turn.0, turn.1)?;

@@ -6,7 +6,7 @@ use Rattle.serial_run.proofs.run_serial.Given as goal
 abbrev pub invariant-turns : goal.invariant-turns
 invariant-turns l = record {
   boot : l.kernel.boot ≡ l.scenario.boot;
-  said : run_from l.scenario.boot (reverse l.kernel.list) l.turns ≡ run_from l.scenario.boot [] (turns l.scenario);
+  said : run_from l.scenario.boot (reverse l.kernel.history) l.turns ≡ run_from l.scenario.boot [] (turns l.scenario);
   fit : All (λ t. IsTrue (fits l.scenario.boot t.0 t.1)) l.turns;
 }
 

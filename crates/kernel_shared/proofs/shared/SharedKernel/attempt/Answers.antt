@@ -1,10 +1,10 @@
 use Rattle.std.proofs.Common.{◌≡◌, [], ◌∷◌, ◌++◌, reverse, Some, ap, ◌∙◌, subst, rules}
 use Rattle.turn_lock.specs.Histories.{StartsWith}
 use Rattle.kernel_shared.specs.Calls.{entry_of}
-use Rattle.kernel_shared.specs.Touches.{bytes_left, NeedsAtMost, needed_number}
-use Rattle.kernel_shared.specs.Ranges.{IsWriteInRange, IsSeenOf}
-use Rattle.kernel_shared.proofs.Passing.{sees-held, write-in_range, starts-more}
-use Rattle.kernel_shared.proofs.Effects.{put-held}
+use Rattle.object_effects.specs.Touches.{bytes_left, NeedsAtMost, needed_number}
+use Rattle.object_effects.specs.Ranges.{IsWriteInRange, IsSeenOf}
+use Rattle.object_effects.proofs.Seen.{sees-held, write-in_range}
+use Rattle.kernel_shared.proofs.Passing.{put-held, starts-more}
 use Rattle.kernel_shared.proofs.shared.SharedKernel.attempt.Goals as goal
 
 pub make-requires-clause-seen : goal.make-requires-clause-seen

@@ -3,8 +3,8 @@ use Rattle.std.specs.List.{Contains}
 use Rattle.kern_ids.specs.declared.entries.Entry.{Entry}
 use Rattle.kern_ids.specs.declared.replies.Reply.{Reply}
 use Rattle.kernel_model.specs.Answers.{answer}
-use Rattle.kernel_shared.specs.Touches.{touched}
-use Rattle.kernel_shared.proofs.Needs.{needed-touches}
+use Rattle.object_effects.specs.Touches.{touched}
+use Rattle.kernel_shared.proofs.Passing.{needed-touches}
 use Rattle.kernel_shared.proofs.shared.SharedKernel.make.Goals as goal
 
 pub leave-requires-in-Ok-clause-entries : goal.leave-requires-in-Ok-clause-entries

@@ -17,8 +17,8 @@ use Rattle.kernel_model.specs.Laws.Kinds.{touches_bytes, is_write_call}
 use Rattle.kernel_model.proofs.Laws.Untouched.{byte-untouched}
 use Rattle.kernel_core.specs.declared.need.Need.TheVariants.{Nothing, Bytes}
 use Rattle.page_store.proofs.ContentsLemmas.{bytes_of-alike}
-use Rattle.kernel_shared.specs.Bodies.{content, content_after}
-use Rattle.kernel_shared.specs.Touches.{touched, objects_in, named_number, number_of}
+use Rattle.object_effects.specs.Bodies.{content, content_after}
+use Rattle.object_effects.specs.Touches.{touched, objects_in, named_number, number_of}
 
 some_is : (y x : ℕ) → Some y ≡ Some x → y ≡ x
 some_is y x e = cc

@@ -1,6 +1,7 @@
 -- What a call does to the bytes of the object that it needs.
-use Rattle.std.proofs.Common.{◌≡◌, ℕ, List, [], ◌∷◌, ◌++◌, reverse, Option, Some, None, Bool, true, false, ◌&&◌, not, if◌then◌else◌, refl, sym, ap, ◌∙◌, subst, nat_eq}
+use Rattle.std.proofs.Common.{◌≡◌, ◌≢◌, ℕ, List, [], ◌∷◌, ◌++◌, reverse, Option, Some, None, Bool, true, false, ◌&&◌, not, if◌then◌else◌, refl, sym, ap, ◌∙◌, subst, nat_eq}
 use Rattle.std.specs.Prelude.{is_some}
+use Rattle.std.specs.List.{Contains}
 use Rattle.std.specs.Option.{option_map_or, unwrap_or}
 use Rattle.std.proofs.lemmas.Bool.{eq-eqb}
 use Rattle.std.proofs.lemmas.List.{reverse-append}
@@ -17,19 +18,14 @@ use Rattle.kernel_model.specs.Contents.{byte, empties, is_ask_empty, next_byte}
 use Rattle.kernel_model.specs.Events.{is_reply, is_map_call, purged_by, written_byte}
 use Rattle.kernel_model.specs.State.{state, is_empty}
 use Rattle.kernel_model.proofs.Laws.Answers.{refused, gets, answer-cases, answer-tells, purge-none}
-use Rattle.kernel_model.proofs.Laws.Contents.{byte-more}
+use Rattle.kernel_model.proofs.Laws.Contents.{byte-more, byte-none}
 use Rattle.kernel_model.proofs.Laws.Kept.{byte-kept}
 use Rattle.page_store.specs.Contents.{overwritten, written_at}
 use Rattle.page_store.proofs.ContentsLemmas.{bytes_of-alike, bytes_of-zero, byte_at-bytes_of}
-use Rattle.kernel_shared.specs.Bodies.{content, content_after}
-use Rattle.kernel_shared.specs.Touches.{bytes_left, wasnt_empty, NeedsAtMost, needed_number}
-use Rattle.kernel_shared.specs.Calls.{Bytes}
-use Rattle.kernel_shared.specs.Steps.{held_after}
-use Rattle.kernel_shared.specs.Untouched.{content-kept, not-touched, asks_if, and_right, IsApart}
-use Rattle.kernel_shared.proofs.Needs.{named-needed, purged-needed, named-purged}
-
-abbrev pub made : ℕ → Call → Reply → Entry
-made who call reply = record { who = who; call = call; reply = reply }
+use Rattle.object_effects.specs.Bodies.{content, content_after, made}
+use Rattle.object_effects.specs.Touches.{bytes_left, wasnt_empty, touched, NeedsAtMost, needed_number}
+use Rattle.object_effects.specs.Untouched.{content-kept, content-untouched, not-touched, asks_if, and_right, IsApart}
+use Rattle.object_effects.proofs.Needs.{named-needed, purged-needed, named-purged, touched-needed}
 
 byte_emptied : (e : Entry) (past : List Entry) (o b : ℕ) → empties o past e ≡ true → byte (e ∷ past) o b ≡ 0
 unfolding next_byte
@@ -112,12 +108,22 @@ module _ (boot : System) (past : List Entry) (who o : ℕ) where
       let r = answer boot past who call in
       other_content past who o call r (purged_by r) (record { map = refl; write = refl; asks = refl }) refl (λ x q. purged-needed boot past who call o x (purged_is r x q) m)
 
--- the body that the object is to have, once the entry of the call was made
-pub put-held : (boot : System) (seen later : List Entry) (who o : ℕ) (call : Call) (reply : Reply) (was now : Bytes) (object after : Option (ℕ × Bytes)) → NeedsAtMost o (needed_number boot (reverse seen) who call)
-    → reply ≡ answer boot (reverse seen) who call → later ≡ seen ++ made who call reply ∷ [] → object ≡ Some (o, was) → after ≡ held_after later object → was ≡ content seen o → now ≡ bytes_left call reply was → after ≡ Some (o, now)
-put-held boot seen later who o call reply was now object after m r l h a w n =
-    let past = reverse seen in
-    let one_more : content later o ≡ content_after (made who call reply ∷ past) o = ap (λ (es : List Entry). content es o) l ∙ ap (λ (es : List Entry). content_after es o) (reverse-append seen (made who call reply ∷ [])) in
-    let left : content_after (made who call reply ∷ past) o ≡ bytes_left call reply (content_after past o) =
-    subst (λ (x : Reply). content_after (made who call x ∷ past) o ≡ bytes_left call x (content_after past o)) (sym r) (content-after boot past who o call m) in
-    a ∙ (ap (held_after later) h ∙ ap (λ (c : Bytes). Some (o, c)) (one_more ∙ (left ∙ (ap (bytes_left call reply) (sym w) ∙ sym n))))
+-- a history with the entry of a call at its end
+content-more : (h : List Entry) (e : Entry) (o : ℕ) → content (h ++ e ∷ []) o ≡ content_after (e ∷ reverse h) o
+content-more h e o = ap (λ (past : List Entry). content_after past o) (reverse-append h (e ∷ []))
+
+-- the bytes of the object that the call needs, in the history with its entry
+pub content-left : (boot : System) (h : List Entry) (who o : ℕ) (call : Call) (reply : Reply) → reply ≡ answer boot (reverse h) who call → NeedsAtMost o (needed_number boot (reverse h) who call) → content (h ++ made who call reply ∷ []) o ≡ bytes_left call reply (content h o)
+content-left boot h who o call reply r m =
+    let past = reverse h in
+    content-more h (made who call reply) o
+    ∙ subst (λ (x : Reply). content_after (made who call x ∷ past) o ≡ bytes_left call x (content_after past o)) (sym r) (content-after boot past who o call m)
+
+-- and those of any other object
+pub content-other : (boot : System) (h : List Entry) (who o : ℕ) (call : Call) (reply : Reply) → reply ≡ answer boot (reverse h) who call → needed_number boot (reverse h) who call ≢ Some o → content (h ++ made who call reply ∷ []) o ≡ content h o
+content-other boot h who o call reply r apart =
+    content-untouched h (made who call reply) o (λ k. apart (touched-needed boot (reverse h) who call o (subst (λ (x : Reply). Contains (touched (made who call x)) o) r k)))
+
+-- at first an object has no bytes
+pub content-first : (o : ℕ) → content [] o ≡ []
+content-first o = bytes_of-alike (byte [] o) (λ _. 0) (λ place inside. byte-none o place) ∙ bytes_of-zero

@@ -1,14 +1,14 @@
 //! What a call does to the body of the object that it needs.
 
-ghost use Rattle.std.specs.Prelude.{◌≡◌, false, length, map, [], IsTrue, reverse, IfOk, OnOk, None};
-ghost use Rattle.std.specs.List.{range_with_len};
+ghost use Rattle.std.specs.Prelude.{◌≡◌, false, length, [], IsTrue, reverse, IfOk, OnOk, None};
+ghost use Rattle.std.specs.List.{AllByRecursion};
 ghost use Rattle.kernel_model.specs.Answers.{bad_range};
-ghost use Rattle.page_store.specs.Contents.{byte_at, IsRangePrepared};
-ghost use Rattle.kernel_shared.specs.Ranges.{IsPreparedFor, IsSeenOf, IsWriteInRange};
+ghost use Rattle.page_store.specs.Contents.{nothing};
+ghost use Rattle.object_effects.specs.Ranges.{IsPreparedFor, IsSeenOf, IsWriteInRange};
 ghost use Rattle.kern_ids.specs.StateWord.{decoded};
 ghost use Rattle.std.specs.Option.{option_map_or};
 ghost use Rattle.kernel_model.specs.Contents.{is_ask_empty};
-ghost use Rattle.kernel_shared.specs.Touches.{bytes_left, wasnt_empty, named_number, needed_number, IsDeclared};
+ghost use Rattle.object_effects.specs.Touches.{bytes_left, wasnt_empty, named_number, needed_number, IsDeclared};
 ghost use Rattle.kernel_model.specs.Histories.{fits};
 
 use kern_ids::calls::{Call, State, Wish, decode_word};
@@ -21,6 +21,19 @@ use kernel_core::need::{Need, named};
 use kernel_core::range::bad_range;
 use kernel_model::boot::Boot;
 use page_store::Body;
+use std::alloc::Global;
+
+/// A body for each object, with nothing in it.
+pub fn empty_bodies(alloc: Global, objects: usize) -> Result<Vec<Body>, NoMemory>
+    ensures count { IfOk result (λ v. length v.items ≡ objects) }
+    ensures empty { IfOk result (λ v. AllByRecursion (λ body. body ≡ nothing) v.items) }
+{
+    let mut bodies = Vec::new(alloc);
+    for _i in 0..objects {
+        bodies.push(Body::new(alloc)?).map_err(|_| NoMemory)?;
+    }
+    Ok(bodies)
+}
 
 /// The object whose bytes the call names.
 pub fn named_number(call: &Call) -> Option<u32>

@@ -1,7 +1,7 @@
 use Rattle.std.proofs.Common.{ℕ, ◌<◌, length, reverse, sym, ◌∙◌, subst}
-use Rattle.kernel_shared.proofs.Needs.{needed-declared}
-use Rattle.kernel_shared.specs.Touches.{number_of, IsDeclared}
-use Rattle.kernel_shared.proofs.effect.needed_number.Goals as goal
+use Rattle.object_effects.proofs.Needs.{needed-declared}
+use Rattle.object_effects.specs.Touches.{number_of, IsDeclared}
+use Rattle.object_effects.proofs.effect.needed_number.Goals as goal
 
 pub returns-in-Bytes-clause-declared : goal.returns-in-Bytes-clause-declared
 returns-in-Bytes-clause-declared c =

@@ -1,7 +1,7 @@
 use Rattle.std.proofs.Common.{◌≡◌, length}
 use Rattle.std.specs.List.{AllByRecursion}
 use Rattle.page_store.specs.Contents.{nothing}
-use Rattle.kernel_shared.proofs.shared.empty_bodies.Given as goal
+use Rattle.object_effects.proofs.effect.empty_bodies.Given as goal
 
 abbrev pub invariant-loop-i : goal.invariant-loop-i
 invariant-loop-i l = record {

@@ -17,6 +17,7 @@ use Rattle.kernel_model.specs.Events.{purged_by, task_of}
 use Rattle.kernel_model.specs.Groups.{objects_of}
 use Rattle.kernel_model.specs.Histories.{fits, names_fit, same, is_task_call}
 use Rattle.std.specs.Prelude.{is_some, nat_lt, ◌&&◌, if◌then◌else◌}
+use Rattle.kernel_model.specs.Turns.{answered}
 use Rattle.kernel_model.specs.Laws.Kinds.{is_purging_call}
 use Rattle.kernel_model.specs.Laws.Order.{Has}
 use Rattle.kernel_model.proofs.Laws.Answers.{answer-tells, purge-none}
@@ -25,9 +26,7 @@ use Rattle.kernel_model.proofs.Laws.Queues.{has-range}
 use Rattle.kernel_core.specs.declared.need.Need.{Need}
 use Rattle.kernel_core.specs.declared.need.Need.TheVariants.{Nothing, Bytes as NeedsBytes}
 use Rattle.kernel_core.specs.Need.{named, or_purged}
-use Rattle.kernel_shared.specs.Calls.{Bytes}
-use Rattle.kernel_shared.specs.Steps.{MayTouch}
-use Rattle.kernel_shared.specs.Touches.{touched, number_of, named_number, needed_number, objects_in, NeedsAtMost, IsDeclared}
+use Rattle.object_effects.specs.Touches.{touched, number_of, named_number, needed_number, objects_in, NeedsAtMost, IsDeclared}
 
 -- the parts of what is needed
 pub or_purged-number : (n : Need) (r : Reply) → (o : Option ℕ) × (number_of (or_purged n r) ≡ o)
@@ -53,19 +52,14 @@ named-purges_not call o h = refl
 pub named-purged : (boot : System) (past : List Entry) (who : ℕ) (call : Call) (o : ℕ) → named_number call ≡ Some o → purged_by (answer boot past who call) ≡ None
 named-purged boot past who call o h = purge-none (answer boot past who call) call (answer-tells boot past who call) (named-purges_not call o h)
 
-held_one : (x i : ℕ) (object : Option (ℕ × Bytes)) → (c : Bytes) × (object ≡ Some (x, c)) → x ≡ i → (c : Bytes) × (object ≡ Some (i, c))
-held_one x i object (c, h) e = (c, h ∙ ap (λ (n : ℕ). Some (n, c)) e)
-
-touches_only : (n : Need) (r : Reply) (object : Option (ℕ × Bytes)) → ((o : ℕ) → number_of n ≡ Some o → purged_by r ≡ None) → MayTouch (number_of (or_purged n r)) object
-    → (i : ℕ) → Contains (objects_in (number_of n) ++ objects_in (purged_by r)) i → (c : Bytes) × (object ≡ Some (i, c))
-touches_only (NeedsBytes o) r object quiet m i k = held_one o i object m (contains_one o i (subst (λ (p : Option ℕ). Contains (o ∷ objects_in p) i) (quiet o refl) k))
-touches_only Nothing (Purged o) object quiet m i k = held_one o i object m (contains_one o i k)
-touches_only Nothing r object quiet m i k = absurd (contains_none i k)
+touched_needs : (n : Need) (r : Reply) → ((o : ℕ) → number_of n ≡ Some o → purged_by r ≡ None) → (i : ℕ) → Contains (objects_in (number_of n) ++ objects_in (purged_by r)) i → number_of (or_purged n r) ≡ Some i
+touched_needs (NeedsBytes o) r quiet i k = ap Some (contains_one o i (subst (λ (p : Option ℕ). Contains (o ∷ objects_in p) i) (quiet o refl) k))
+touched_needs Nothing (Purged o) quiet i k = ap Some (contains_one o i k)
+touched_needs Nothing r quiet i k = absurd (contains_none i k)
 
 -- the entry of a call touches nothing but the object that it needs
-pub needed-touches : (boot : System) (past : List Entry) (who : ℕ) (call : Call) (object : Option (ℕ × Bytes)) → MayTouch (needed_number boot past who call) object
-    → (i : ℕ) → Contains (touched (record { who = who; call = call; reply = answer boot past who call })) i → (c : Bytes) × (object ≡ Some (i, c))
-needed-touches boot past who call object m = touches_only (named call) (answer boot past who call) object (named-purged boot past who call) m
+pub touched-needed : (boot : System) (past : List Entry) (who : ℕ) (call : Call) (i : ℕ) → Contains (touched (answered boot past (who, call))) i → needed_number boot past who call ≡ Some i
+touched-needed boot past who call i k = touched_needs (named call) (answer boot past who call) (named-purged boot past who call) i k
 
 -- an object that is needed is declared
 chosen_declared : (boot : System) (past : List Entry) (o : ℕ) (call : Call) → PurgedBy boot past o call → Has (objects_of boot) o

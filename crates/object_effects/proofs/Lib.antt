@@ -1,0 +1,3 @@
+pub mod Needs
+pub mod Effects
+pub mod Seen

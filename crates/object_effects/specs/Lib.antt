@@ -1,0 +1,4 @@
+pub mod Bodies
+pub mod Touches
+pub mod Untouched
+pub mod Ranges

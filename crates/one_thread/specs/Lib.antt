@@ -1,0 +1,2 @@
+pub mod OneThreads
+pub mod Runs
