@@ -9,3 +9,4 @@ pub mod Picked
 pub mod Charges
 pub mod Settings
 pub mod Ends
+pub mod Seen

@@ -17,6 +17,7 @@ mod range_access;
 mod refusals;
 mod scans;
 mod states;
+mod steps;
 pub mod tables;
 mod tasks;
 mod ticks;

@@ -1,5 +1,5 @@
 -- What is due, from how an input was read.
-use Rattle.std.proofs.Common.{◌≡◌, ◌∙◌, ◌≤◌, ◌<◌, ◌+◌, inl, inr, ℕ, List, [], ◌∷◌, length, take, Option, Some, None, Result, Ok, Err, refl, sym, ap, subst, arith}
+use Rattle.std.proofs.Common.{◌≡◌, ◌≢◌, ◌∙◌, ◌≤◌, ◌<◌, ◌+◌, inl, inr, ℕ, List, [], ◌∷◌, length, take, Option, Some, None, Result, Ok, Err, refl, sym, ap, subst, arith}
 use Rattle.std.specs.Prelude.{Contains, replicate}
 use Rattle.std.proofs.lemmas.List.{length-take-le, length-replicate}
 use Rattle.edge.specs.Ends.{IsOver}
@@ -9,7 +9,8 @@ use Rattle.scenario_text.specs.Grammar.{scenario_of}
 use Rattle.commands.specs.Messages.{too_long}
 use Rattle.commands.specs.Outcome.{Due}
 use Rattle.run_command.specs.Outcome.{run_limit, IsRunAnswer}
-use Rattle.run_command.specs.Calls.{IsRunDue}
+use Rattle.std.specs.Io.KnownBytes.{Appends}
+use Rattle.run_command.specs.Calls.{IsRunDue, IsRunOutcome, WritesRun}
 
 -- an input that is too long
 pub over-due : (old new : Option (List ℕ)) (before now : ℕ) → IsOver old new run_limit → IsRunDue old new before now (7, too_long run_limit)
@@ -38,3 +39,8 @@ pub due-listed : (old new : Option (List ℕ)) (before now : ℕ) (due : Due) (s
 due-listed old new before now due status (inl (x, taken, inl (le, a))) e = subst Listed (sym e) (answer_listed (scenario_of x) due a)
 due-listed old new before now due status (inl (x, taken, inr (lt, d))) e = (4, omega arith, sym (e ∙ ap (λ (d : Due). d.0) d))
 due-listed old new before now due status (inr (rose, d)) e = (2, omega arith, sym (e ∙ ap (λ (d : Due). d.0) d))
+
+-- where no read failed what is due is an outcome
+pub written_run : (old new : Option (List ℕ)) (before now : ℕ) (due : Due) (held holds : Option (List ℕ)) (status : ℕ) → IsRunDue old new before now due → status ≡ due.0 → Appends held holds due.1 → status ≢ 4 → WritesRun old new held holds status
+written_run old new before now due held holds status (inl o) e wrote other = (due.1, subst (λ (n : ℕ). IsRunOutcome old new (n, due.1)) (sym e) o, wrote)
+written_run old new before now due held holds status (inr f) e wrote other = absurd (other (e ∙ ap (λ (d : Due). d.0) f.1))
