@@ -1,17 +1,17 @@
 -- What an accepted call tells: its answer, and that none of the causes of a refusal holds.
-use Rattle.std.proofs.Common.{◌≡◌, ℕ, List, ◌∷◌, Option, Some, None, refl, sym, ap, ◌∙◌, Bool, true, false, not, ◌||◌, nat_lt, ◌&&◌, inl}
+use Rattle.std.proofs.Common.{◌≡◌, ℕ, List, ◌∷◌, Option, Some, None, refl, sym, ap, ◌∙◌, Bool, true, false, not, ◌||◌, nat_lt, ◌&&◌, inl, inr}
 use Rattle.std.specs.Prelude.{IsTrue, is_some}
 use Rattle.std.specs.Option.{option_map_or, unwrap_or}
 use Rattle.std.proofs.lemmas.Bool.{false≢true, and_parts}
 use Rattle.kern_ids.specs.declared.entries.Entry.{Entry}
 use Rattle.kern_ids.specs.declared.calls.Call.{Call}
-use Rattle.kern_ids.specs.declared.replies.Refusal.TheVariants.{Dead}
+use Rattle.kern_ids.specs.declared.replies.Refusal.TheVariants.{Dead, Range}
 use Rattle.kern_ids.specs.declared.replies.Reply.TheVariants.{Refused}
 use Rattle.kernel_model.specs.System.{System}
 use Rattle.kernel_model.specs.Events.{task_of}
 use Rattle.kernel_model.specs.Mapping.{live}
 use Rattle.kernel_model.specs.Lists.{some_if}
-use Rattle.kernel_model.specs.Answers.{answer, accepted_answer, refusal, causes, is_dead, named_task}
+use Rattle.kernel_model.specs.Answers.{answer, accepted_answer, refusal, causes, is_dead, named_task, out_of_range}
 use Rattle.kernel_model.specs.Histories.{fits, same, is_task_call, names_fit}
 use Rattle.kernel_model.proofs.Laws.Answers.{first_some-none}
 
@@ -38,6 +38,11 @@ module _ (boot : System) (past : List Entry) (who : ℕ) (call : Call) where
   accepted-dead : refusal boot past who call ≡ None → (is_dead boot past (task_of boot who) || is_dead boot past (named_task call)) ≡ false
   unfolding refusal
   accepted-dead h = none_of _ Dead (first_some-none (causes boot past who call) (some_if (is_dead boot past (task_of boot who) || is_dead boot past (named_task call)) Dead) (inl refl) h)
+
+  -- the bytes that it names are in range
+  pub accepted-range : refusal boot past who call ≡ None → out_of_range boot call ≡ false
+  unfolding refusal
+  accepted-range h = none_of _ Range (first_some-none (causes boot past who call) (some_if (out_of_range boot call) Range) (inr (inr (inr (inr (inr (inl refl)))))) h)
 
   -- the caller's task is live, and so is the one that the call names
   pub accepted-live : (t : ℕ) → task_of boot who ≡ Some t → refusal boot past who call ≡ None → live boot past t ≡ true

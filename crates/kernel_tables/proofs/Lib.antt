@@ -50,3 +50,4 @@ pub mod Parting
 pub mod Ending
 pub mod EndCall
 pub mod EndEntries
+pub mod StepCalls
