@@ -32,7 +32,7 @@ impl Model for PieceCheck {
 }
 
 // Takes bytes of the piece up to the end of one line, and replays the entry that they end: how many it took.
-fn take(
+fn take_some(
     scenario: &Scenario,
     feed: &mut HistoryFeed,
     replay: &mut Replay,
@@ -69,7 +69,7 @@ fn take_all(
 {
     let mut at = 0;
     'bytes: while at < piece.len() {
-        let taken = take(scenario, feed, replay, &piece[at..])?;
+        let taken = take_some(scenario, feed, replay, &piece[at..])?;
         at += taken;
     }
     Ok(())

@@ -11,8 +11,8 @@ joined text piece at taken =
     append_assoc text (take at piece) (take taken (take (length piece - at) (drop at piece)))
     ∙ ap (λ (xs : List ℕ). text ++ xs) (ap (λ (xs : List ℕ). take at piece ++ take taken xs) whole ∙ sym (take-add at taken piece))
 
-pub take-requires-clause-stands : goal.take-requires-clause-stands
-take-requires-clause-stands c =
+pub take_some-requires-clause-stands : goal.take_some-requires-clause-stands
+take_some-requires-clause-stands c =
     let h = c.requires.stands in
     record {
       scenario = h.scenario;
@@ -21,8 +21,8 @@ take-requires-clause-stands c =
       for_them = c.bytes.invariant.stands h.scenario h.first h.text h.for_them;
     }
 
-pub take-requires-clause-room : goal.take-requires-clause-room
-take-requires-clause-room c = λ sound.
+pub take_some-requires-clause-room : goal.take_some-requires-clause-room
+take_some-requires-clause-room c = λ sound.
     let all : HasRoom (parts c.args.scenario.now c.args.feed.now c.args.replay.now) (length c.args.piece.now + 0) = λ before. let r = c.requires.room before in omega (arith, r) in
     let room = c.bytes.invariant.room 0 all sound in
     rw (length-take, length-drop) (omega (arith, room))
@@ -43,7 +43,7 @@ bytes-preserved c =
           c.in_ok-taken.ensures.room (length piece - (at + taken) + more)
           (subst (HasRoom (parts c.args.scenario.now c.bytes.feed c.bytes.replay)) same (i.room more all));
       stands = λ s n text h.
-          subst (λ (xs : List ℕ). StandsFor s n xs (parts c.args.scenario.now c.take.new.feed c.take.new.replay)) (joined text piece at taken)
+          subst (λ (xs : List ℕ). StandsFor s n xs (parts c.args.scenario.now c.take_some.new.feed c.take_some.new.replay)) (joined text piece at taken)
           (c.in_ok-taken.ensures.stands s n (text ++ take at piece) (i.stands s n text h));
     }
 
