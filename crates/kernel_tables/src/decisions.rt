@@ -25,7 +25,7 @@ use vm_object::ObjectTable;
 use volatile_groups::Groups;
 
 /// The object of the ripe purge.
-fn ripe_object(tokens: &TokenQueues, groups: &Groups) -> Option<ObjId>
+pub(crate) fn ripe_object(tokens: &TokenQueues, groups: &Groups) -> Option<ObjId>
     requires { HasTokens tokens.now groups.now }
     ensures { result ≡ picked tokens.now groups.now }
 {
@@ -58,7 +58,7 @@ fn first_inactive(pages: &PageQueues) -> Option<PageId>
 
 impl Parts {
     /// What an accepted scan does.
-    fn scan_plan(&self) -> ScanPlan
+    pub(crate) fn scan_plan(&self) -> ScanPlan
         ghost past: { List Entry }
         requires stands { Stands (values self.now) past }
         ensures { moves.reply_of self.now.objects.pages result ≡ scan self.now.boot past }

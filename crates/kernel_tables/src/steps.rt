@@ -4,15 +4,32 @@ ghost use Rattle.std.specs.Prelude.{◌≡◌, ◌<◌, ◌+◌, ◌^◌, ◌∷
 ghost use Rattle.kern_ids.specs.declared.entries.Entry.{Entry};
 ghost use Rattle.kernel_model.specs.Answers.{answer, refusal};
 ghost use Rattle.kernel_model.specs.Histories.{fits};
+ghost use Rattle.kernel_model.specs.Events.{purged_by};
+ghost use Rattle.kernel_model.specs.Pages.{free};
+ghost use Rattle.page_queues.specs.Pages.{Pages};
+ghost use Rattle.kernel_tables.specs.Moves.{reply_of};
 ghost use Rattle.kernel_tables.specs.Values.{values, entry_of};
 ghost use Rattle.kernel_tables.specs.Seen.{SeesBytes};
 ghost use Rattle.kernel_tables.specs.Stands.{Stands};
 
+use crate::decisions::ripe_object;
 use crate::parts::Parts;
 use kern_ids::calls::Call;
-use kern_ids::ids::ThreadId;
+use kern_ids::ids::{ObjId, ThreadId};
 use kern_ids::lines::ByteLine;
 use kern_ids::replies::Reply;
+use pageout_scan::plan::ScanPlan;
+use purge_pick::forced;
+
+// The object that a plan purges.
+fn purged_in(plan: ScanPlan) -> Option<ObjId>
+    ensures { (pages : Pages) → result ≡ purged_by (reply_of pages plan) }
+{
+    match plan {
+        ScanPlan::Purge(o) => Some(o),
+        _ => None,
+    }
+}
 
 impl Parts {
     // A call that is not refused.
@@ -69,5 +86,30 @@ impl Parts {
             Some(why) => self.refused(who, call, why),
             None => self.accepted(who, call, seen),
         }
+    }
+
+    /// The object that the call would purge.
+    pub(crate) fn purged(&self, who: ThreadId, call: &Call) -> Option<ObjId>
+        ghost past: { List Entry }
+        requires stands { Stands (values self.now) past }
+        requires fits { IsTrue (fits self.now.boot who call.now) }
+        ensures { result ≡ purged_by (answer self.now.boot past who call.now) }
+    {
+        self.boot.valid();
+        match call {
+            Call::PurgeOne => ripe_object(&self.objects.tokens, &self.objects.groups),
+            Call::Forced => forced(&self.objects.groups),
+            Call::Scan => purged_in(self.scan_plan()),
+            _ => None,
+        }
+    }
+
+    /// The free frames.
+    pub(crate) fn free(&self) -> u32
+        ghost past: { List Entry }
+        requires stands { Stands (values self.now) past }
+        ensures { result ≡ free self.now.boot past }
+    {
+        self.objects.pages.counts().free
     }
 }

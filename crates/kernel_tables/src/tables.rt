@@ -1,16 +1,20 @@
 //! The tables of a kernel.
 
-ghost use Rattle.std.specs.Prelude.{◌≡◌, ◌∷◌, [], List, IsTrue, IfOk};
+ghost use Rattle.std.specs.Prelude.{◌≡◌, ◌<◌, ◌+◌, ◌^◌, ◌∷◌, [], List, length, IsTrue, IfOk};
 ghost use Rattle.kern_ids.specs.declared.entries.Entry.{Entry};
-ghost use Rattle.kern_ids.specs.declared.calls.Call.TheVariants.{Info as AskInfo, Purgeables as AskPurgeables};
 ghost use Rattle.kernel_model.specs.Answers.{answer};
 ghost use Rattle.kernel_model.specs.Histories.{fits};
+ghost use Rattle.kernel_model.specs.Events.{purged_by};
+ghost use Rattle.kernel_model.specs.Pages.{free};
 ghost use Rattle.kernel_tables.specs.Values.{entry_of};
+ghost use Rattle.kernel_tables.specs.Seen.{SeesBytes};
 ghost use Rattle.kernel_tables.specs.Stands.{Stands};
 
 use crate::parts::Parts;
+use kern_ids::calls::Call;
 use kern_ids::entries::NoMemory;
-use kern_ids::ids::ThreadId;
+use kern_ids::ids::{ObjId, ThreadId};
+use kern_ids::lines::ByteLine;
 use kern_ids::replies::Reply;
 use kernel_model::boot::Boot;
 use std::alloc::Global;
@@ -19,9 +23,6 @@ use std::marker::Model;
 /// What the kernel began with, and what it keeps of the history: the places of the pages, the volatile
 /// objects by their groups, the tokens, the objects, the accounts of the tasks, their bands, ages and wishes,
 /// and how many pages were ever deactivated.
-///
-/// Each call is answered as the definitions do over every history that the tables stand for, and afterwards they
-/// stand for that history and the call's entry. No call takes memory.
 #[derive(Drop)]
 pub struct Tables {
     parts: Parts,
@@ -45,26 +46,38 @@ impl Tables {
         Ok(Tables { parts })
     }
 
-    /// Info: the free frames, the pages in each place, and how many entered and left the inactive queue.
-    pub fn info(&self, who: ThreadId) -> Reply
+    /// Answers a call, and counts it in: the reply is the definition's over every history that the tables stand for,
+    /// and afterwards they stand for that history and the call's entry. A Read in range is given the bytes that the
+    /// history gives to its object. Takes no memory, and always answers.
+    pub fn step(&mut self, who: ThreadId, call: &Call, seen: ByteLine) -> Reply
         ghost past: { List Entry }
-        requires stands { Stands self.now past }
-        requires fits { IsTrue (fits self.now.boot who AskInfo) }
-        ensures reply { result ≡ answer self.now.boot past who AskInfo }
-        ensures stands { Stands self.now (entry_of who AskInfo result ∷ past) }
+        requires stands { Stands self.old past }
+        requires fits { IsTrue (fits self.old.boot who call.now) }
+        requires seen { SeesBytes self.old.boot past call.now seen }
+        requires room { length past + 1 < 2 ^ 64 }
+        ensures reply { result ≡ answer self.old.boot past who call.now }
+        ensures stands { Stands self.new (entry_of who call.now result ∷ past) }
+        ensures boot { self.new.boot ≡ self.old.boot }
     {
-        self.parts.info(who)
+        self.parts.step(who, call, seen)
     }
 
-    /// Purgeables: the tokens of each queue, how many of them are ripe, and the dues of the first unripe and of
-    /// the last one.
-    pub fn purgeables(&self, who: ThreadId) -> Reply
+    /// The object that the call would purge, if it were made now. Takes no memory.
+    pub fn purged(&self, who: ThreadId, call: &Call) -> Option<ObjId>
         ghost past: { List Entry }
         requires stands { Stands self.now past }
-        requires fits { IsTrue (fits self.now.boot who AskPurgeables) }
-        ensures reply { result ≡ answer self.now.boot past who AskPurgeables }
-        ensures stands { Stands self.now (entry_of who AskPurgeables result ∷ past) }
+        requires fits { IsTrue (fits self.now.boot who call.now) }
+        ensures { result ≡ purged_by (answer self.now.boot past who call.now) }
     {
-        self.parts.purgeables(who)
+        self.parts.purged(who, call)
+    }
+
+    /// The free frames. Takes no memory.
+    pub fn free(&self) -> u32
+        ghost past: { List Entry }
+        requires stands { Stands self.now past }
+        ensures { result ≡ free self.now.boot past }
+    {
+        self.parts.free()
     }
 }
