@@ -143,18 +143,11 @@ impl SharedKernel {
             self.table.leave(pass, turn);
             return Err(NoMemory);
         }
-        match turn.value().kernel.step(who, *call, seen) {
-            Ok(reply) => {
-                turn.value().kernel.legal();
-                self.table.leave(pass, turn);
-                gate.at(who, Point::AfterTurn);
-                Ok(reply)
-            }
-            Err(NoMemory) => {
-                self.table.leave(pass, turn);
-                Err(NoMemory)
-            }
-        }
+        let reply = turn.value().kernel.step(who, *call, seen);
+        turn.value().kernel.legal();
+        self.table.leave(pass, turn);
+        gate.at(who, Point::AfterTurn);
+        Ok(reply)
     }
 
     // Makes the call with no object where it needs none.
@@ -175,17 +168,13 @@ impl SharedKernel {
         gate.at(who, Point::BeforeTurn);
         let mut turn = self.table.enter(rt, pass);
         match needed_number(&turn.value().kernel, who, call) {
-            Ok(None) => {
+            None => {
                 let reply = self.make(gate, pass, turn, call, no_bytes())?;
                 Ok(Look::Made(reply))
             }
-            Ok(Some(o)) => {
+            Some(o) => {
                 self.table.leave(pass, turn);
                 Ok(Look::Needs(o))
-            }
-            Err(NoMemory) => {
-                self.table.leave(pass, turn);
-                Err(NoMemory)
             }
         }
     }
@@ -217,27 +206,19 @@ impl SharedKernel {
         let seen = look(&self.boot, call, held.body());
         gate.at(who, Point::BeforeTurn);
         let mut turn = self.table.enter(rt, pass);
-        match needed_number(&turn.value().kernel, who, call) {
-            Ok(needed) => {
-                if needs_other(needed, o) {
-                    self.table.leave(pass, turn);
-                    self.table.put_object(pass, o, held);
-                    return Ok(None);
-                }
-                match self.make(gate, pass, turn, call, seen) {
-                    Ok(reply) => {
-                        apply(&self.boot, call, &reply, held.body());
-                        self.table.put_object(pass, o, held);
-                        Ok(Some(reply))
-                    }
-                    Err(NoMemory) => {
-                        self.table.put_object(pass, o, held);
-                        Err(NoMemory)
-                    }
-                }
+        let needed = needed_number(&turn.value().kernel, who, call);
+        if needs_other(needed, o) {
+            self.table.leave(pass, turn);
+            self.table.put_object(pass, o, held);
+            return Ok(None);
+        }
+        match self.make(gate, pass, turn, call, seen) {
+            Ok(reply) => {
+                apply(&self.boot, call, &reply, held.body());
+                self.table.put_object(pass, o, held);
+                Ok(Some(reply))
             }
             Err(NoMemory) => {
-                self.table.leave(pass, turn);
                 self.table.put_object(pass, o, held);
                 Err(NoMemory)
             }

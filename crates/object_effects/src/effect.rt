@@ -46,14 +46,14 @@ pub fn named_number(call: &Call) -> Option<u32>
 }
 
 /// The object whose bytes the call needs now. It is a declared one.
-pub fn needed_number(kernel: &Kernel, who: ThreadId, call: &Call) -> Result<Option<u32>, NoMemory>
+pub fn needed_number(kernel: &Kernel, who: ThreadId, call: &Call) -> Option<u32>
     requires { IsTrue (fits kernel.now.boot who call.now) }
-    ensures needed { IfOk result (λ n. n ≡ needed_number kernel.now.boot (reverse kernel.now.history) who call.now) }
-    ensures declared { IfOk result (λ n. IsDeclared kernel.now.boot n) }
+    ensures needed { result ≡ needed_number kernel.now.boot (reverse kernel.now.history) who call.now }
+    ensures declared { IsDeclared kernel.now.boot result }
 {
-    match kernel.need(who, call)? {
-        Need::Bytes(o) => Ok(Some(o.get())),
-        Need::Nothing => Ok(None),
+    match kernel.need(who, call) {
+        Need::Bytes(o) => Some(o.get()),
+        Need::Nothing => None,
     }
 }
 

@@ -85,7 +85,7 @@ impl OneThread {
         ensures boot { self.new.boot ≡ self.old.boot }
         ensures unchanged { OnErr result (self.new ≡ self.old) }
     {
-        match needed_number(&self.kernel, who, &call)? {
+        match needed_number(&self.kernel, who, &call) {
             Some(o) => step_with(
                 &self.boot,
                 &mut self.kernel,

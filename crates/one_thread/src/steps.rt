@@ -25,7 +25,7 @@ pub(crate) fn step_alone(kernel: &mut Kernel, who: ThreadId, call: &Call) -> Res
     ensures unchanged { OnErr result (kernel.new.history ≡ kernel.old.history) }
 {
     kernel.reserve(1)?;
-    Ok(kernel.step(who, *call, no_bytes())?)
+    Ok(kernel.step(who, *call, no_bytes()))
 }
 
 // Makes a call that needs object o. What the reply says is then done to its body.
@@ -52,7 +52,7 @@ pub(crate) fn step_with(
     prepare(boot, call, body)?;
     kernel.reserve(1)?;
     let seen = look(boot, call, body);
-    let reply = kernel.step(who, *call, seen)?;
+    let reply = kernel.step(who, *call, seen);
     apply(boot, call, &reply, body);
     Ok(reply)
 }

@@ -9,8 +9,8 @@ use Rattle.object_effects.proofs.Seen.{sees-held, write-in_range}
 use Rattle.one_thread.proofs.Kept.{held-bytes, needed-kept, needed-named}
 use Rattle.one_thread.proofs.steps.step_with.Goals as goal
 
-pub step-requires-clause-seen : goal.step-requires-clause-seen
-step-requires-clause-seen c =
+pub step-reply-requires-clause-seen : goal.step-reply-requires-clause-seen
+step-reply-requires-clause-seen c =
     let boot = c.args.boot.now in
     let h = c.args.kernel.now.history in
     let call = c.args.call.now in
@@ -23,16 +23,16 @@ step-requires-clause-seen c =
 
 pub apply-requires-clause-range : goal.apply-requires-clause-range
 apply-requires-clause-range c =
-    write-in_range c.args.boot.now (reverse c.args.kernel.now.history) c.args.who c.args.call.now c.in_ok-reply.reply (search rules)
+    write-in_range c.args.boot.now (reverse c.args.kernel.now.history) c.args.who c.args.call.now c.step-reply.result (search rules)
 
 pub returns-clause-bodies : goal.returns-clause-bodies
 returns-clause-bodies c =
     let boot = c.args.boot.now in
     let h = c.args.kernel.now.history in
     let call = c.args.call.now in
-    let reply = c.in_ok-reply.reply in
+    let reply = c.step-reply.result in
     let was = c.index_mut-body.result.now in
-    let later = c.step.new.self.history in
+    let later = c.step-reply.new.self.history in
     let answered : reply ≡ answer boot (reverse h) c.args.who call = search rules in
     let entry : later ≡ h ++ made c.args.who call reply ∷ [] = search rules in
     let left : c.apply.new.body.bytes ≡ bytes_left call reply was.bytes = c.apply.ensures ∙ ap (bytes_left call reply) c.prepare.ensures.bytes in

@@ -21,32 +21,32 @@ pub apply-requires-clause-range : goal.apply-requires-clause-range
 apply-requires-clause-range g c =
     let p = c.enter-turn.new.pass in
     let base : c.args.self.now.base ≡ c.self.inside.boot = search rules in
-    subst (λ b. IsWriteInRange b c.args.call.now c.in-Ok-make.reply) base
-    (write-in_range c.args.self.now.base (reverse p.seen) p.number c.args.call.now c.in-Ok-make.reply c.in-Ok-make.ensures.made.answered)
+    subst (λ b. IsWriteInRange b c.args.call.now c.in-Ok.reply) base
+    (write-in_range c.args.self.now.base (reverse p.seen) p.number c.args.call.now c.in-Ok.reply c.in-Ok.ensures.made.answered)
 
-pub put_object-requires-in-Ok-make-clause-object : goal.put_object-requires-in-Ok-make-clause-object
-put_object-requires-in-Ok-make-clause-object g c =
+pub put_object-requires-in-Ok-clause-object : goal.put_object-requires-in-Ok-clause-object
+put_object-requires-in-Ok-clause-object g c =
     let o = c.args.o in
     let base = c.args.self.now.base in
     let call = c.args.call.now in
     let p = c.enter-turn.new.pass in
     let was = c.take_object-held.result.bytes in
     let held : p.object ≡ Some (o, was) = search rules in
-    let body : c.body-in-Ok-make.result.now.bytes ≡ was = search rules in
-    let left : c.apply.new.body.bytes ≡ bytes_left call c.in-Ok-make.reply was = c.apply.ensures ∙ ap (bytes_left call c.in-Ok-make.reply) body in
-    let is : c.in-Ok.needed ≡ needed_number base (reverse p.seen) p.number call = search rules in
-    let only : NeedsAtMost o c.in-Ok.needed = c.needs_other.ensures c.if-needs_other.false in
-    put-held base p.seen c.make.new.pass.seen p.number o call c.in-Ok-make.reply was c.apply.new.body.bytes p.object c.make.new.pass.object
-    (subst (NeedsAtMost o) is only) c.in-Ok-make.ensures.made.answered c.in-Ok-make.ensures.made.seen held c.in-Ok-make.ensures.made.object (c.enter-turn.ensures.current o was held) left
+    let body : c.body-in-Ok.result.now.bytes ≡ was = search rules in
+    let left : c.apply.new.body.bytes ≡ bytes_left call c.in-Ok.reply was = c.apply.ensures ∙ ap (bytes_left call c.in-Ok.reply) body in
+    let is : c.needed_number-needed.result ≡ needed_number base (reverse p.seen) p.number call = search rules in
+    let only : NeedsAtMost o c.needed_number-needed.result = c.needs_other.ensures c.if-needs_other.false in
+    put-held base p.seen c.make.new.pass.seen p.number o call c.in-Ok.reply was c.apply.new.body.bytes p.object c.make.new.pass.object
+    (subst (NeedsAtMost o) is only) c.in-Ok.ensures.made.answered c.in-Ok.ensures.made.seen held c.in-Ok.ensures.made.object (c.enter-turn.ensures.current o was held) left
 
-pub returns-in-Ok-make-clause-kept : goal.returns-in-Ok-make-clause-kept
-returns-in-Ok-make-clause-kept g c =
-    let new = c.put_object-in-Ok-make.new.pass in
+pub returns-in-Ok-clause-kept : goal.returns-in-Ok-clause-kept
+returns-in-Ok-clause-kept g c =
+    let new = c.put_object-in-Ok.new.pass in
     let seen : StartsWith c.enter-turn.new.pass.seen c.args.pass.now.seen = search rules in
-    let later : new.seen ≡ c.enter-turn.new.pass.seen ++ entry_of c.enter-turn.new.pass c.args.call.now c.in-Ok-make.reply ∷ [] = search rules in
+    let later : new.seen ≡ c.enter-turn.new.pass.seen ++ entry_of c.enter-turn.new.pass c.args.call.now c.in-Ok.reply ∷ [] = search rules in
     record {
       idle = search rules;
       number = search rules;
       others = search rules;
-      seen = starts-more new.seen c.enter-turn.new.pass.seen c.args.pass.now.seen (entry_of c.enter-turn.new.pass c.args.call.now c.in-Ok-make.reply ∷ []) later seen;
+      seen = starts-more new.seen c.enter-turn.new.pass.seen c.args.pass.now.seen (entry_of c.enter-turn.new.pass c.args.call.now c.in-Ok.reply ∷ []) later seen;
     }

@@ -7,12 +7,12 @@ use Rattle.object_effects.specs.Touches.{touched}
 use Rattle.kernel_shared.proofs.Passing.{needed-touches}
 use Rattle.kernel_shared.proofs.shared.SharedKernel.make.Goals as goal
 
-pub leave-requires-in-Ok-clause-entries : goal.leave-requires-in-Ok-clause-entries
-leave-requires-in-Ok-clause-entries g c =
+pub leave-requires-clause-entries : goal.leave-requires-clause-entries
+leave-requires-clause-entries g c =
     let p = c.args.pass.now in
-    let e : Entry = record { who = p.number; call = c.args.call.now; reply = c.in-Ok.reply } in
-    let is : c.value-in-Ok.result.now.kernel.history ≡ p.seen ++ e ∷ [] = search rules in
-    let r : c.in-Ok.reply ≡ answer c.args.self.now.base (reverse p.seen) p.number c.args.call.now = search rules in
+    let e : Entry = record { who = p.number; call = c.args.call.now; reply = c.step-reply.result } in
+    let is : c.value-2.result.now.kernel.history ≡ p.seen ++ e ∷ [] = search rules in
+    let r : c.step-reply.result ≡ answer c.args.self.now.base (reverse p.seen) p.number c.args.call.now = search rules in
     inr (
       e,
       is,
