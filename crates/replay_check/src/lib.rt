@@ -4,7 +4,6 @@
 
 mod checks;
 pub mod law;
-mod performs;
 mod replays;
 mod same;
 mod verdicts;

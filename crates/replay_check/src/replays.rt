@@ -7,13 +7,12 @@ ghost use Rattle.kernel_model.specs.Histories.{fits};
 ghost use Rattle.replay_check.specs.Replays.{first_unspent, Stands, StandsFor};
 ghost use Rattle.replay_check.specs.Verdicts.{is_call_at, verdict_of};
 
-use crate::performs::perform;
 use crate::same::{same_call, same_reply};
 use crate::verdicts::Verdict;
 use kern_ids::entries::{Entry, NoMemory};
 use kern_ids::ids::ThreadId;
-use kernel_core::kernel::Kernel;
 use kernel_model::scenario::Scenario;
+use one_thread::kernel::OneThread;
 use std::alloc::Global;
 use std::marker::Model;
 
@@ -21,7 +20,7 @@ use std::marker::Model;
 /// there on the calls are made no more.
 #[derive(Drop)]
 pub struct Replay {
-    kernel: Kernel,
+    kernel: OneThread,
     /// How many calls each thread has made.
     made: [usize; 32],
     fault: Option<Verdict>,
@@ -85,7 +84,7 @@ impl Replay {
         ensures { IfOk result (StandsFor scenario.now []) }
     {
         Ok(Replay {
-            kernel: Kernel::boot(alloc, scenario.boot())?,
+            kernel: OneThread::boot(alloc, scenario.boot())?,
             made: [0; 32],
             fault: None,
         })
@@ -100,13 +99,13 @@ impl Replay {
         if self.fault.is_some() {
             return Ok(());
         }
-        let place = self.kernel.history().len() as u32;
+        let place = self.kernel.kernel().history().len() as u32;
         let thread = entry.who.get() as usize;
         if !is_call_at(scenario, entry, self.made[thread]) {
             self.fault = Some(Verdict::WrongCall { place });
             return Ok(());
         }
-        let expected = perform(&mut self.kernel, scenario.boot(), entry.who, &entry.call)?;
+        let expected = self.kernel.call(entry.who, entry.call)?;
         if !same_reply(&entry.reply, &expected) {
             self.fault = Some(Verdict::WrongReply { place, expected });
             return Ok(());

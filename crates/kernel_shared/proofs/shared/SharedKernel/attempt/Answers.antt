@@ -1,11 +1,17 @@
-use Rattle.std.proofs.Common.{◌≡◌, [], ◌∷◌, ◌++◌, reverse, Some, ap, ◌∙◌, subst, rules}
+use Rattle.std.proofs.Common.{◌≡◌, [], ◌∷◌, ◌++◌, reverse, Some, ap, sym, ◌∙◌, subst, rules}
+use Rattle.std.specs.Prelude.{Result, Ok, Err, OnOk, false}
+use Rattle.std.specs.Result.{is_err}
 use Rattle.turn_lock.specs.Histories.{StartsWith}
 use Rattle.kernel_shared.specs.Calls.{entry_of}
 use Rattle.object_effects.specs.Touches.{bytes_left, NeedsAtMost, needed_number}
-use Rattle.object_effects.specs.Ranges.{IsWriteInRange, IsSeenOf}
+use Rattle.object_effects.specs.Ranges.{IsWriteInRange, IsSeenOf, IsPreparedFor}
 use Rattle.object_effects.proofs.Seen.{sees-held, write-in_range}
 use Rattle.kernel_shared.proofs.Passing.{put-held, starts-more}
 use Rattle.kernel_shared.proofs.shared.SharedKernel.attempt.Goals as goal
+
+not_err : {A E : Type 0} (r : Result A E) (P : Type 0) → OnOk r P → is_err r ≡ false → P
+not_err (Ok x) P p e = p
+not_err (Err x) P p e = absurd (cc)
 
 pub make-requires-clause-seen : goal.make-requires-clause-seen
 make-requires-clause-seen g c =
@@ -50,3 +56,9 @@ returns-in-Ok-clause-kept g c =
       others = search rules;
       seen = starts-more new.seen c.enter-turn.new.pass.seen c.args.pass.now.seen (entry_of c.enter-turn.new.pass c.args.call.now c.in-Ok.reply ∷ []) later seen;
     }
+
+pub apply-requires-clause-prepared : goal.apply-requires-clause-prepared
+apply-requires-clause-prepared g c =
+    let ready : IsPreparedFor c.self.inside.boot c.args.call.now c.prepare.new.body = not_err c.prepare.result _ c.prepare.ensures.prepared (sym c.is_err.ensures.value ∙ c.if-is_err.false) in
+    let now : c.body-in-Ok.result.now ≡ c.prepare.new.body = search rules in
+    subst (IsPreparedFor c.self.inside.boot c.args.call.now) (sym now) ready
