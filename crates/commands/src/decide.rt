@@ -23,11 +23,7 @@ use serial_run::run_serial;
 use std::alloc::Global;
 
 // What is answered where the input is to be a scenario.
-fn answer_scenario(
-    alloc: Global,
-    rewriting: Rewriting,
-    input: &[u8],
-) -> Result<Answer, NoMemory>
+fn answer_scenario(alloc: Global, rewriting: Rewriting, input: &[u8]) -> Result<Answer, NoMemory>
     requires { length input.now < 2 ^ 31 }
     ensures { IfOk result (λ a. due_of a ≡ answered rewriting (scenario_of input.now)) }
 {

@@ -60,11 +60,7 @@ fn run_all<R: Threads + Wait + Abort + Sync, G: Gate + Sync>(
 }
 
 // The history of a kernel with two passes.
-fn closed<R: Abort>(
-    rt: &R,
-    kernel: SharedKernel,
-    passes: Vec<Pass>,
-) -> Result<EntryList, NoMemory>
+fn closed<R: Abort>(rt: &R, kernel: SharedKernel, passes: Vec<Pass>) -> Result<EntryList, NoMemory>
     requires two { kernel.passes ≡ 2 }
     requires idle { All (IsIdleOf kernel) passes.items }
 {
