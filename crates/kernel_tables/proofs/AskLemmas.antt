@@ -14,6 +14,7 @@ use Rattle.kern_ids.specs.declared.calls.Queue.{Queue}
 use Rattle.kern_ids.specs.declared.calls.Queue.TheVariants.{Obsolete, Lifo, Fifo}
 use Rattle.kern_ids.specs.declared.replies.Reply.{Reply}
 use Rattle.kern_ids.specs.declared.replies.Reply.TheVariants.{Frames, Tokens, Is, Refused, Pages as Told}
+use Rattle.kern_ids.specs.declared.replies.FrameCounts.{FrameCounts}
 use Rattle.kern_ids.specs.declared.replies.QueueCounts.{QueueCounts}
 use Rattle.kern_ids.specs.declared.replies.TokenCounts.{TokenCounts}
 use Rattle.kernel_model.specs.System.{System}
@@ -75,7 +76,7 @@ stored-are tables past s = sym (length-map (stored_keys tables.pages) page_of) �
 abbrev frames_told : ℕ → ℕ → ℕ → ℕ → ℕ → Reply
 frames_told f a i s e = Frames (record { free = f - (a + i); active = a; inactive = i; stored = s; entered = e; left = e - i })
 
-info-told : (tables : TableValues) (past : List Entry) → Stands tables past → frames_told tables.pages.frames (length (active_keys tables.pages)) (length (inactive_keys tables.pages)) (length (stored_keys tables.pages)) tables.entered ≡ frames_reply tables.boot past
+pub info-told : (tables : TableValues) (past : List Entry) → Stands tables past → frames_told tables.pages.frames (length (active_keys tables.pages)) (length (inactive_keys tables.pages)) (length (stored_keys tables.pages)) tables.entered ≡ frames_reply tables.boot past
 unfolding free left
 info-told tables past s =
     let boot = tables.boot in
@@ -83,8 +84,8 @@ info-told tables past s =
     ∙ ap₂ (λ n e. frames_told tables.pages.frames (active_pages boot past) (inactive_pages boot past) n e) (stored-are tables past s) s.pages.entered
     ∙ ap (λ f. frames_told f (active_pages boot past) (inactive_pages boot past) (stored_pages boot past) (entered past)) s.pages.frames
 
-pub info-is : (tables : TableValues) (past : List Entry) (who : ℕ) → IsTrue (fits tables.boot who Info) → Stands tables past → frames_told tables.pages.frames (length (active_keys tables.pages)) (length (inactive_keys tables.pages)) (length (stored_keys tables.pages)) tables.entered ≡ answer tables.boot past who Info
-info-is tables past who f s = info-told tables past s ∙ sym (info-answer tables.boot past who (of_kernel tables.boot who Info refl f))
+pub info-is : (boot : System) (past : List Entry) (who : ℕ) (told : FrameCounts) → IsTrue (fits boot who Info) → Frames told ≡ frames_reply boot past → Frames told ≡ answer boot past who Info
+info-is boot past who told f is = is ∙ sym (info-answer boot past who (of_kernel boot who Info refl f))
 
 pub info-stands : (tables : TableValues) (past : List Entry) (who : ℕ) (reply : Reply) → IsTrue (fits tables.boot who Info) → reply ≡ answer tables.boot past who Info → Stands tables past → Stands tables (entry_of who Info reply ∷ past)
 info-stands tables past who reply f answered s =
@@ -102,11 +103,13 @@ queue-told tables past q s = ap counts_of (s.queues.dues q) ∙ counts-dues (lef
 abbrev tokens_told : QueueCounts → QueueCounts → QueueCounts → Reply
 tokens_told o l f = Tokens (record { obsolete = o; lifo = l; fifo = f })
 
-pub purgeables-is : (tables : TableValues) (past : List Entry) (who : ℕ) (told : TokenCounts) → told.obsolete ≡ counts_of tables.tokens.obsolete → told.lifo ≡ counts_of tables.tokens.lifo → told.fifo ≡ counts_of tables.tokens.fifo → IsTrue (fits tables.boot who Purgeables) → Stands tables past → Tokens told ≡ answer tables.boot past who Purgeables
-purgeables-is tables past who told o l f fit s =
+pub purgeables-told : (tables : TableValues) (past : List Entry) (told : TokenCounts) → told.obsolete ≡ counts_of tables.tokens.obsolete → told.lifo ≡ counts_of tables.tokens.lifo → told.fifo ≡ counts_of tables.tokens.fifo → Stands tables past → Tokens told ≡ tokens_reply tables.boot past
+purgeables-told tables past told o l f s =
     ap₂ (λ x y. tokens_told x y told.fifo) (o ∙ queue-told tables past Obsolete s) (l ∙ queue-told tables past Lifo s)
     ∙ ap (λ z. tokens_told (queue_counts (left tables.boot past) (of_queue (deadlines tables.boot past) Obsolete)) (queue_counts (left tables.boot past) (of_queue (deadlines tables.boot past) Lifo)) z) (f ∙ queue-told tables past Fifo s)
-    ∙ sym (purgeables-answer tables.boot past who (of_kernel tables.boot who Purgeables refl fit))
+
+pub purgeables-is : (boot : System) (past : List Entry) (who : ℕ) (told : TokenCounts) → IsTrue (fits boot who Purgeables) → Tokens told ≡ tokens_reply boot past → Tokens told ≡ answer boot past who Purgeables
+purgeables-is boot past who told f is = is ∙ sym (purgeables-answer boot past who (of_kernel boot who Purgeables refl f))
 
 pub purgeables-stands : (tables : TableValues) (past : List Entry) (who : ℕ) (reply : Reply) → IsTrue (fits tables.boot who Purgeables) → reply ≡ answer tables.boot past who Purgeables → Stands tables past → Stands tables (entry_of who Purgeables reply ∷ past)
 purgeables-stands tables past who reply f answered s =

@@ -10,3 +10,4 @@ pub mod Charges
 pub mod Settings
 pub mod Ends
 pub mod Seen
+pub mod Standing

@@ -16,6 +16,7 @@ mod purges;
 mod range_access;
 mod refusals;
 mod scans;
+pub mod standing;
 mod states;
 mod steps;
 pub mod tables;

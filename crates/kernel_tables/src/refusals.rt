@@ -130,7 +130,8 @@ impl Parts {
         self.objects.table.maps(o, t)
     }
 
-    fn is_mapped(&self, o: ObjId) -> bool
+    /// Whether some task maps an object.
+    pub(crate) fn is_mapped(&self, o: ObjId) -> bool
         ghost past: { List Entry }
         requires stands { Stands (values self.now) past }
         requires object { o < length self.now.boot.objects }

@@ -2,20 +2,25 @@
 
 ghost use Rattle.std.specs.Prelude.{◌≡◌, ◌<◌, ◌+◌, ◌^◌, ◌∷◌, [], List, length, IsTrue, IfOk};
 ghost use Rattle.kern_ids.specs.declared.entries.Entry.{Entry};
-ghost use Rattle.kernel_model.specs.Answers.{answer};
+ghost use Rattle.kern_ids.specs.declared.replies.Reply.TheVariants.{Frames, Tokens};
+ghost use Rattle.kernel_model.specs.Answers.{answer, frames_reply, tokens_reply};
+ghost use Rattle.kernel_model.specs.Lists.{some_if};
+ghost use Rattle.kernel_model.specs.Mapping.{live, mapped};
 ghost use Rattle.kernel_model.specs.Histories.{fits};
 ghost use Rattle.kernel_model.specs.Events.{purged_by};
 ghost use Rattle.kernel_model.specs.Pages.{free};
 ghost use Rattle.kernel_tables.specs.Values.{entry_of};
 ghost use Rattle.kernel_tables.specs.Seen.{SeesBytes};
+ghost use Rattle.kernel_tables.specs.Standing.{live_task, mapped_object};
 ghost use Rattle.kernel_tables.specs.Stands.{Stands};
 
 use crate::parts::Parts;
+use crate::standing::{LiveTask, MappedObject};
 use kern_ids::calls::Call;
 use kern_ids::entries::NoMemory;
-use kern_ids::ids::{ObjId, ThreadId};
+use kern_ids::ids::{ObjId, TaskId, ThreadId};
 use kern_ids::lines::ByteLine;
-use kern_ids::replies::Reply;
+use kern_ids::replies::{FrameCounts, Reply, TokenCounts};
 use kernel_model::boot::Boot;
 use std::alloc::Global;
 use std::marker::Model;
@@ -79,5 +84,43 @@ impl Tables {
         ensures { result ≡ free self.now.boot past }
     {
         self.parts.free()
+    }
+
+    /// What stands of a task, if it lives. Takes no memory.
+    pub fn task(&self, t: TaskId) -> Option<LiveTask>
+        ghost past: { List Entry }
+        requires stands { Stands self.now past }
+        requires declared { t < length self.now.boot.tasks }
+        ensures { result ≡ some_if (live self.now.boot past t) (live_task self.now.boot past t) }
+    {
+        self.parts.task(t)
+    }
+
+    /// What stands of an object, if it is mapped. Takes no memory.
+    pub fn object(&self, o: ObjId) -> Option<MappedObject>
+        ghost past: { List Entry }
+        requires stands { Stands self.now past }
+        requires declared { o < length self.now.boot.objects }
+        ensures { result ≡ some_if (mapped self.now.boot past o) (mapped_object self.now.boot past o) }
+    {
+        self.parts.object(o)
+    }
+
+    /// The pages by their places, as Info tells them. Takes no memory.
+    pub fn frame_counts(&self) -> FrameCounts
+        ghost past: { List Entry }
+        requires { Stands self.now past }
+        ensures { Frames result ≡ frames_reply self.now.boot past }
+    {
+        self.parts.frame_counts()
+    }
+
+    /// The tokens of each queue, as Purgeables tells them. Takes no memory.
+    pub fn token_counts(&self) -> TokenCounts
+        ghost past: { List Entry }
+        requires { Stands self.now past }
+        ensures { Tokens result ≡ tokens_reply self.now.boot past }
+    {
+        self.parts.token_counts()
     }
 }

@@ -18,7 +18,7 @@ use kern_ids::ids::{Band, ThreadId};
 use kern_ids::replies::Reply;
 
 /// Every wish is the number of a band.
-fn wishes_are_bands(wishes: &[Band])
+pub(crate) fn wishes_are_bands(wishes: &[Band])
     ensures { (t : ℕ) → slice_index_or wishes.now t 0 < 21 }
 {
     for wish in wishes {
