@@ -9,8 +9,9 @@ use crate::input::read_input;
 use crate::lines::{legal_line, missing_line, no_entry_line, wrong_call_line, wrong_reply_line};
 use kern_ids::entries::{EntryList, NoMemory};
 use kern_ids::faults::ReadFault;
+use kernel_core::kernel::Kernel;
 use kernel_model::scenario::Scenario;
-use replay_check::{Verdict, check};
+use replay_check::{Verdict, replay};
 use report_tables::{Facts, json_text, table_text, why_text};
 use std::alloc::Global;
 
@@ -87,14 +88,15 @@ fn report_why(
     }
 }
 
-// What is told of a history that is legal and whole.
+// What is told of the kernel's history, which is legal and whole.
 fn report_whole(
     alloc: Global,
     judging: Judging,
     scenario: &Scenario,
-    history: &EntryList,
+    kernel: &Kernel,
 ) -> Result<Report, NoMemory>
-    ensures { IfOk result (λ r. told_of r ≡ reported judging scenario.now history.now.list) }
+    requires { kernel.now.boot ≡ scenario.now.boot }
+    ensures { IfOk result (λ r. told_of r ≡ reported judging scenario.now kernel.now.history) }
 {
     match judging {
         Judging::Check => {
@@ -102,16 +104,16 @@ fn report_whole(
             Ok(Report::Legal(text))
         }
         Judging::Table => {
-            let facts = Facts::of_history(alloc, scenario.boot(), history.as_slice())?;
+            let facts = Facts::of_kernel(alloc, scenario.boot(), kernel)?;
             let text = table_text(alloc, &facts)?;
             Ok(Report::Legal(text))
         }
         Judging::Json => {
-            let facts = Facts::of_history(alloc, scenario.boot(), history.as_slice())?;
+            let facts = Facts::of_kernel(alloc, scenario.boot(), kernel)?;
             let text = json_text(alloc, &facts)?;
             Ok(Report::Legal(text))
         }
-        Judging::Why(n) => report_why(alloc, scenario, history, n),
+        Judging::Why(n) => report_why(alloc, scenario, kernel.history(), n),
     }
 }
 
@@ -125,8 +127,9 @@ fn report_on(
     requires { length history.now.list ≤ 200000 }
     ensures { IfOk result (λ r. told_of r ≡ told_by judging scenario.now history.now.list (verdict_of scenario.now history.now.list)) }
 {
-    match check(alloc, scenario, history)? {
-        Verdict::Legal => report_whole(alloc, judging, scenario, history),
+    let replay = replay(alloc, scenario, history)?;
+    match replay.verdict(scenario) {
+        Verdict::Legal => report_whole(alloc, judging, scenario, replay.kernel().kernel()),
         Verdict::WrongReply { place, expected } => {
             let text = text_of(alloc, wrong_reply_line(place, &expected).as_slice())?;
             Ok(Report::Wrong(text))

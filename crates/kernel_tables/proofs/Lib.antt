@@ -51,4 +51,4 @@ pub mod Ending
 pub mod EndCall
 pub mod EndEntries
 pub mod StepCalls
-pub mod Standing
+pub mod StandingLemmas

@@ -208,7 +208,7 @@ verdict-parts None None not_legal h = (refl, refl)
 verdict-parts None (Some n) not_legal h = cc
 verdict-parts (Some v) u not_legal h = absurd (not_legal (ap Some h))
 
-parts-legal : (s : Plan) (h : List Entry) → verdict_of s h ≡ Legal → (first_fault s h ≡ None) × (unspent s h ≡ None)
+pub parts-legal : (s : Plan) (h : List Entry) → verdict_of s h ≡ Legal → (first_fault s h ≡ None) × (unspent s h ≡ None)
 unfolding verdict_of
 parts-legal s h e = verdict-parts (first_fault s h) (unspent s h) (first_fault-legal s h) e
 

@@ -2,6 +2,7 @@
 
 ghost use Rattle.std.specs.Prelude.{◌≡◌, ◌<◌, ◌^◌, length, IfOk};
 ghost use Rattle.kernel_model.specs.Histories as histories;
+ghost use Rattle.replay_check.specs.Replays.{StandsFor};
 ghost use Rattle.replay_check.specs.Verdicts.{verdict_of, IsWhole};
 
 use crate::replays::Replay;
@@ -9,6 +10,19 @@ use crate::verdicts::Verdict;
 use kern_ids::entries::{EntryList, NoMemory};
 use kernel_model::scenario::Scenario;
 use std::alloc::Global;
+
+/// The replay of a whole history of the scenario, of fewer than 2^32 entries.
+pub fn replay(alloc: Global, scenario: &Scenario, history: &EntryList) -> Result<Replay, NoMemory>
+    requires { length history.now.list < 2 ^ 32 }
+    ensures { IfOk result (StandsFor scenario.now history.now.list) }
+{
+    let mut replay = Replay::new(alloc, scenario)?;
+    let entries = history.as_slice();
+    for entry in entries {
+        replay.feed(scenario, entry)?;
+    }
+    Ok(replay)
+}
 
 /// The verdict on a history of the scenario, of fewer than 2^32 entries.
 pub fn check(alloc: Global, scenario: &Scenario, history: &EntryList) -> Result<Verdict, NoMemory>
@@ -21,10 +35,6 @@ pub fn check(alloc: Global, scenario: &Scenario, history: &EntryList) -> Result<
     ensures only { IfOk result (λ v. histories.Legal scenario.now.boot history.now.list → IsWhole scenario.now history.now.list → v ≡ Verdict.Legal) }
 {
     scenario.valid();
-    let mut replay = Replay::new(alloc, scenario)?;
-    let entries = history.as_slice();
-    for entry in entries {
-        replay.feed(scenario, entry)?;
-    }
-    Ok(replay.finish(scenario))
+    let replay = replay(alloc, scenario, history)?;
+    Ok(replay.verdict(scenario))
 }

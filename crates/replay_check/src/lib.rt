@@ -8,6 +8,6 @@ mod replays;
 mod same;
 mod verdicts;
 
-pub use checks::check;
+pub use checks::{check, replay};
 pub use replays::Replay;
 pub use verdicts::Verdict;

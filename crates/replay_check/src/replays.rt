@@ -114,19 +114,23 @@ impl Replay {
         Ok(())
     }
 
-    /// The verdict on the entries that it was fed.
-    pub fn finish(self, scenario: &Scenario) -> Verdict
-        ensures { (es : List Entry) → StandsFor scenario.now es self → result ≡ verdict_of scenario.now es }
+    /// The kernel behind the entries before the first wrong one, or behind all of them.
+    pub fn kernel(&self) -> &OneThread
+        ensures boot { result.now.boot ≡ self.now.boot }
+        ensures history { result.now.history ≡ self.now.history }
     {
-        let Replay {
-            kernel: _,
-            made,
-            fault,
-        } = self;
+        &self.kernel
+    }
+
+    /// The verdict on the entries that it was fed. Where it is Legal, the kernel has just these entries.
+    pub fn verdict(&self, scenario: &Scenario) -> Verdict
+        ensures verdict { (es : List Entry) → StandsFor scenario.now es self.now → result ≡ verdict_of scenario.now es }
+        ensures history { (es : List Entry) → StandsFor scenario.now es self.now → result ≡ Verdict.Legal → self.now.history ≡ es }
+    {
         scenario.valid();
-        match fault {
+        match self.fault {
             Some(fault) => fault,
-            None => end(scenario, &made),
+            None => end(scenario, &self.made),
         }
     }
 }

@@ -1,4 +1,3 @@
-pub mod PageCounts
 pub mod FactsFrom
 pub mod LineLaws
 pub mod JsonLaws

@@ -10,17 +10,11 @@ use Rattle.kern_ids.specs.declared.replies.TokenCounts.{TokenCounts}
 use Rattle.kernel_model.specs.System.{System}
 use Rattle.kernel_model.specs.Lists.{some_if}
 use Rattle.kernel_model.specs.Mapping.{live, mapped, tasks_of}
-use Rattle.kernel_model.specs.State.{state}
-use Rattle.kernel_model.specs.Pages.{is_active, is_inactive, is_stored}
 use Rattle.kernel_model.specs.Groups.{objects_of}
-use Rattle.kernel_model.specs.Counted.{counts}
-use Rattle.kernel_model.specs.Bands.{band, active}
 use Rattle.kernel_model.specs.Answers.{frames_reply, tokens_reply}
-use Rattle.kernel_model.specs.Laws.Frames.{pages_at}
 use Rattle.report_tables.specs.Summary.{replies, is_purging, is_killing}
-use Rattle.report_tables.specs.declared.rows.LiveTask.{LiveTask}
+use Rattle.kernel_tables.specs.Standing.{live_task, mapped_object}
 use Rattle.report_tables.specs.declared.rows.TaskFacts.{TaskFacts}
-use Rattle.report_tables.specs.declared.rows.MappedObject.{MappedObject}
 use Rattle.report_tables.specs.declared.rows.ObjectFacts.{ObjectFacts}
 
 -- the number of entries, of purges and of kills, the tasks and the objects by their numbers, and what Info and Purgeables tell
@@ -33,23 +27,12 @@ pub record Report : Type 0 where
   pub frames : FrameCounts
   pub tokens : TokenCounts
 
-abbrev pub live_task : System → List Entry → ℕ → LiveTask
-live_task boot past t = record { band = band boot past t; active = active boot past t; counts = counts boot past t }
-
 abbrev pub task_facts : System → List Entry → ℕ → TaskFacts
 task_facts boot past t = record { task = t; life = some_if (live boot past t) (live_task boot past t) }
 
 -- the first task that is declared for an object
 abbrev pub first_task : System → ℕ → ℕ
 first_task boot o = option_map_or (λ object. slice_index_or object.tasks 0 0) (slice_get boot.objects o) 0
-
-abbrev pub mapped_object : System → List Entry → ℕ → MappedObject
-mapped_object boot past o = record {
-  state = state past o;
-  active = pages_at boot past is_active o;
-  inactive = pages_at boot past is_inactive o;
-  stored = pages_at boot past is_stored o;
-}
 
 abbrev pub object_facts : System → List Entry → ℕ → ObjectFacts
 object_facts boot past o = record { object = o; first = first_task boot o; held = some_if (mapped boot past o) (mapped_object boot past o) }

@@ -7,9 +7,9 @@ use Rattle.serde_json.specs.View.{items_of}
 use Rattle.history_text.specs.Entries.{state_word}
 use Rattle.report_tables.specs.Facts.{Report}
 use Rattle.report_tables.specs.Table.{activity_word}
-use Rattle.report_tables.specs.declared.rows.LiveTask.{LiveTask}
+use Rattle.kernel_tables.specs.declared.standing.LiveTask.{LiveTask}
 use Rattle.report_tables.specs.declared.rows.TaskFacts.{TaskFacts}
-use Rattle.report_tables.specs.declared.rows.MappedObject.{MappedObject}
+use Rattle.kernel_tables.specs.declared.standing.MappedObject.{MappedObject}
 use Rattle.report_tables.specs.declared.rows.ObjectFacts.{ObjectFacts}
 
 -- a number, and a list

@@ -5,9 +5,9 @@ use Rattle.kern_ids.specs.declared.replies.Reply.TheVariants.{Pages, Frames, Tok
 use Rattle.line_text.specs.Cut.{Word, line_of, text_of}
 use Rattle.history_text.specs.Entries.{state_word, reply_words}
 use Rattle.report_tables.specs.Facts.{Report}
-use Rattle.report_tables.specs.declared.rows.LiveTask.{LiveTask}
+use Rattle.kernel_tables.specs.declared.standing.LiveTask.{LiveTask}
 use Rattle.report_tables.specs.declared.rows.TaskFacts.{TaskFacts}
-use Rattle.report_tables.specs.declared.rows.MappedObject.{MappedObject}
+use Rattle.kernel_tables.specs.declared.standing.MappedObject.{MappedObject}
 use Rattle.report_tables.specs.declared.rows.ObjectFacts.{ObjectFacts}
 
 -- a line of these words, with its end

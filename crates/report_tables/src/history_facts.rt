@@ -1,28 +1,24 @@
-//! What stands after a history, found by looking back through it.
+//! What stands after a history, as the tables of a kernel tell it.
 
-ghost use Rattle.std.specs.Prelude.{◌≡◌, reverse, map, IfOk};
+ghost use Rattle.std.specs.Prelude.{◌≡◌, ◌<◌, List, length, reverse, map, IfOk};
+ghost use Rattle.kern_ids.specs.declared.entries.Entry.{Entry as AnEntry};
+ghost use Rattle.kern_ids.specs.declared.replies.Reply.TheVariants.{Frames, Tokens};
 ghost use Rattle.kernel_model.specs.Groups.{objects_of};
 ghost use Rattle.kernel_model.specs.Mapping.{tasks_of};
-ghost use Rattle.kernel_model.specs.Pages as page_spec;
 ghost use Rattle.kernel_model.specs.Answers.{frames_reply, tokens_reply};
-ghost use Rattle.kernel_model.specs.Laws.Frames.{pages_at};
-ghost use Rattle.kernel_model.specs.Lists.{some_if};
-ghost use Rattle.slow_kernel.specs.Tables as tables;
+ghost use Rattle.kernel_tables.specs.Stands.{Stands};
 ghost use Rattle.report_tables.specs.Facts as spec;
 
-use crate::rows::{LiveTask, MappedObject, ObjectFacts, TaskFacts};
+use crate::rows::{ObjectFacts, TaskFacts};
 use crate::trial::{killed, purged};
 use kern_ids::entries::{Entry, NoMemory};
 use kern_ids::ids::{ObjId, TaskId};
-use kern_ids::replies::{Counts, FrameCounts, QueueCounts, Reply, TokenCounts};
+use kern_ids::replies::{FrameCounts, TokenCounts};
+use kernel_core::kernel::Kernel;
 use kernel_model::boot::Boot;
+use kernel_tables::tables::Tables;
 use slow_kernel::groups::object_id;
-use slow_kernel::mapping::{mapped, task_id};
-use slow_kernel::pages::{PageRow, add_rows, all_rows, is_active, is_inactive, is_stored, small};
-use slow_kernel::scan::{frames, tokens};
-use slow_kernel::states::state;
-use slow_kernel::tasks::{TaskRow, task_row};
-use slow_kernel::victims::counts;
+use slow_kernel::mapping::task_id;
 use std::alloc::Global;
 use std::marker::Model;
 
@@ -47,123 +43,38 @@ impl Model for Facts {
     ghost view = { λ f. record { entries = f.entries; purged = f.purged; killed = f.killed; tasks = f.tasks.items; objects = f.objects.items; frames = f.frames; tokens = f.tokens } };
 }
 
-fn life(row: &TaskRow, counts: Counts) -> Option<LiveTask>
-    ensures { result ≡ some_if row.now.live (record { band = row.now.band; active = row.now.pass.active; counts = counts }) }
+// The entries are named for the proofs alone, here and below.
+fn task_facts(tables: &Tables, _entries: &[Entry], t: TaskId) -> TaskFacts
+    ghost past: { List AnEntry }
+    requires stands { Stands tables.now past }
+    requires declared { t < length tables.now.boot.tasks }
+    ensures { result ≡ spec.task_facts tables.now.boot past t }
 {
-    if row.live {
-        Some(LiveTask {
-            band: row.band,
-            active: row.pass.active,
-            counts,
-        })
-    } else {
-        None
+    TaskFacts {
+        task: t.get(),
+        life: tables.task(t),
     }
 }
 
-fn task_facts(
-    boot: &Boot,
-    entries: &[Entry],
-    pages: &[PageRow],
-    t: TaskId,
-) -> Result<TaskFacts, NoMemory>
-    requires { pages.now ≡ tables.all_rows boot.now (reverse entries.now) }
-    ensures { IfOk result (λ f. f ≡ spec.task_facts boot.now (reverse entries.now) t) }
-{
-    let pages_of_task = counts(boot, entries, pages, t)?;
-    let row = task_row(boot, entries, t);
-    Ok(TaskFacts {
-        task: t.get(),
-        life: life(&row, pages_of_task),
-    })
-}
-
 #[tactic(auto, using(slow_kernel::proofs::Tables::table_more))]
-fn task_table(alloc: Global, boot: &Boot, entries: &[Entry]) -> Result<Vec<TaskFacts>, NoMemory>
+fn task_table(
+    alloc: Global,
+    boot: &Boot,
+    tables: &Tables,
+    entries: &[Entry],
+) -> Result<Vec<TaskFacts>, NoMemory>
+    requires stands { Stands tables.now (reverse entries.now) }
+    requires boot { tables.now.boot ≡ boot.now }
     ensures { IfOk result (λ v. v.items ≡ map (spec.task_facts boot.now (reverse entries.now)) (tasks_of boot.now)) }
 {
-    let pages = all_rows(alloc, boot, entries)?;
     let mut table = Vec::new(alloc);
     let n = boot.tasks().len();
     for k in 0..n {
-        let facts = task_facts(boot, entries, &pages, task_id(k))?;
+        let facts = task_facts(tables, entries, task_id(k));
         table.reserve(1).map_err(|_| NoMemory)?;
         table.push_reserved(facts);
     }
     Ok(table)
-}
-
-#[tactic(auto, using(crate::proofs::PageCounts::active_rows))]
-fn active_pages(boot: &Boot, entries: &[Entry], rows: &[PageRow], o: ObjId) -> usize
-    requires { rows.now ≡ tables.object_rows boot.now (reverse entries.now) o }
-    ensures { result ≡ pages_at boot.now (reverse entries.now) page_spec.is_active o }
-{
-    rows.iter().filter(|row| is_active(row)).count()
-}
-
-#[tactic(auto, using(crate::proofs::PageCounts::inactive_rows))]
-fn inactive_pages(boot: &Boot, entries: &[Entry], rows: &[PageRow], o: ObjId) -> usize
-    requires { rows.now ≡ tables.object_rows boot.now (reverse entries.now) o }
-    ensures { result ≡ pages_at boot.now (reverse entries.now) page_spec.is_inactive o }
-{
-    rows.iter().filter(|row| is_inactive(row)).count()
-}
-
-#[tactic(auto, using(crate::proofs::PageCounts::stored_rows))]
-fn stored_pages(boot: &Boot, entries: &[Entry], rows: &[PageRow], o: ObjId) -> usize
-    requires { rows.now ≡ tables.object_rows boot.now (reverse entries.now) o }
-    ensures { result ≡ pages_at boot.now (reverse entries.now) page_spec.is_stored o }
-{
-    rows.iter().filter(|row| is_stored(row)).count()
-}
-
-fn rows_of(
-    alloc: Global,
-    boot: &Boot,
-    entries: &[Entry],
-    o: ObjId,
-) -> Result<Vec<PageRow>, NoMemory>
-    ensures { IfOk result (λ rows. rows.items ≡ tables.object_rows boot.now (reverse entries.now) o) }
-{
-    let mut rows = Vec::new(alloc);
-    add_rows(alloc, &mut rows, boot, entries, o)?;
-    Ok(rows)
-}
-
-fn mapped_object(
-    alloc: Global,
-    boot: &Boot,
-    entries: &[Entry],
-    o: ObjId,
-) -> Result<MappedObject, NoMemory>
-    ensures { IfOk result (λ m. m ≡ spec.mapped_object boot.now (reverse entries.now) o) }
-{
-    let rows = rows_of(alloc, boot, entries, o)?;
-    let active = small(active_pages(boot, entries, &rows, o))?;
-    let inactive = small(inactive_pages(boot, entries, &rows, o))?;
-    let stored = small(stored_pages(boot, entries, &rows, o))?;
-    Ok(MappedObject {
-        state: state(entries, o),
-        active,
-        inactive,
-        stored,
-    })
-}
-
-fn held(
-    alloc: Global,
-    boot: &Boot,
-    entries: &[Entry],
-    o: ObjId,
-) -> Result<Option<MappedObject>, NoMemory>
-    ensures { IfOk result (λ h. h ≡ some_if (Rattle.kernel_model.specs.Mapping.mapped boot.now (reverse entries.now) o) (spec.mapped_object boot.now (reverse entries.now) o)) }
-{
-    if mapped(boot, entries, o) {
-        let object = mapped_object(alloc, boot, entries, o)?;
-        Ok(Some(object))
-    } else {
-        Ok(None)
-    }
 }
 
 /// The first task that was declared for o.
@@ -179,103 +90,75 @@ fn first_task(boot: &Boot, o: ObjId) -> u32
     }
 }
 
-fn object_facts(
-    alloc: Global,
-    boot: &Boot,
-    entries: &[Entry],
-    o: ObjId,
-) -> Result<ObjectFacts, NoMemory>
-    ensures { IfOk result (λ f. f ≡ spec.object_facts boot.now (reverse entries.now) o) }
+fn object_facts(boot: &Boot, tables: &Tables, _entries: &[Entry], o: ObjId) -> ObjectFacts
+    ghost past: { List AnEntry }
+    requires stands { Stands tables.now past }
+    requires boot { tables.now.boot ≡ boot.now }
+    requires declared { o < length boot.now.objects }
+    ensures { result ≡ spec.object_facts boot.now past o }
 {
-    let held = held(alloc, boot, entries, o)?;
-    Ok(ObjectFacts {
+    ObjectFacts {
         object: o.get(),
         first: first_task(boot, o),
-        held,
-    })
+        held: tables.object(o),
+    }
 }
 
 #[tactic(auto, using(slow_kernel::proofs::Tables::table_more))]
-fn object_table(alloc: Global, boot: &Boot, entries: &[Entry]) -> Result<Vec<ObjectFacts>, NoMemory>
+fn object_table(
+    alloc: Global,
+    boot: &Boot,
+    tables: &Tables,
+    entries: &[Entry],
+) -> Result<Vec<ObjectFacts>, NoMemory>
+    requires stands { Stands tables.now (reverse entries.now) }
+    requires boot { tables.now.boot ≡ boot.now }
     ensures { IfOk result (λ v. v.items ≡ map (spec.object_facts boot.now (reverse entries.now)) (objects_of boot.now)) }
 {
     let mut table = Vec::new(alloc);
     let n = boot.objects().len();
     for k in 0..n {
-        let facts = object_facts(alloc, boot, entries, object_id(k))?;
+        let facts = object_facts(boot, tables, entries, object_id(k));
         table.reserve(1).map_err(|_| NoMemory)?;
         table.push_reserved(facts);
     }
     Ok(table)
 }
 
-fn frames_in(reply: &Reply) -> FrameCounts
-    ensures { result ≡ spec.frames_in reply.now }
+fn frame_counts(tables: &Tables, _entries: &[Entry]) -> FrameCounts
+    ghost past: { List AnEntry }
+    requires { Stands tables.now past }
+    ensures { Frames result ≡ frames_reply tables.now.boot past }
 {
-    match reply {
-        Reply::Frames(counts) => *counts,
-        _ => FrameCounts {
-            free: 0,
-            active: 0,
-            inactive: 0,
-            stored: 0,
-            entered: 0,
-            left: 0,
-        },
-    }
+    tables.frame_counts()
 }
 
-fn tokens_in(reply: &Reply) -> TokenCounts
-    ensures { result ≡ spec.tokens_in reply.now }
+fn token_counts(tables: &Tables, _entries: &[Entry]) -> TokenCounts
+    ghost past: { List AnEntry }
+    requires { Stands tables.now past }
+    ensures { Tokens result ≡ tokens_reply tables.now.boot past }
 {
-    let none = QueueCounts {
-        tokens: 0,
-        ripe: 0,
-        next: 0,
-        last: 0,
-    };
-    match reply {
-        Reply::Tokens(counts) => *counts,
-        _ => TokenCounts {
-            obsolete: none,
-            lifo: none,
-            fifo: none,
-        },
-    }
-}
-
-fn frame_counts(alloc: Global, boot: &Boot, entries: &[Entry]) -> Result<FrameCounts, NoMemory>
-    ensures { IfOk result (λ f. f ≡ spec.frames_in (frames_reply boot.now (reverse entries.now))) }
-{
-    let reply = frames(alloc, boot, entries)?;
-    Ok(frames_in(&reply))
-}
-
-fn token_counts(alloc: Global, boot: &Boot, entries: &[Entry]) -> Result<TokenCounts, NoMemory>
-    ensures { IfOk result (λ t. t ≡ spec.tokens_in (tokens_reply boot.now (reverse entries.now))) }
-{
-    let reply = tokens(alloc, boot, entries)?;
-    Ok(tokens_in(&reply))
+    tables.token_counts()
 }
 
 impl Facts {
-    /// What stands after these entries. It looks back through them several times for each task and each
-    /// object.
-    pub fn of_history(alloc: Global, boot: &Boot, entries: &[Entry]) -> Result<Facts, NoMemory>
-        ensures { IfOk result (λ f. f ≡ spec.facts_of boot.now (reverse entries.now)) }
+    /// What stands after the kernel's history. Its tables are asked, and its entries are only counted.
+    pub fn of_kernel(alloc: Global, boot: &Boot, kernel: &Kernel) -> Result<Facts, NoMemory>
+        requires { kernel.now.boot ≡ boot.now }
+        ensures { IfOk result (λ f. f ≡ spec.facts_of boot.now (reverse kernel.now.history)) }
     {
-        let tasks = task_table(alloc, boot, entries)?;
-        let objects = object_table(alloc, boot, entries)?;
-        let frames = frame_counts(alloc, boot, entries)?;
-        let tokens = token_counts(alloc, boot, entries)?;
+        let tables = kernel.tables();
+        let entries = kernel.history().as_slice();
+        let tasks = task_table(alloc, boot, tables, entries)?;
+        let objects = object_table(alloc, boot, tables, entries)?;
         Ok(Facts {
             entries: entries.len(),
             purged: purged(entries),
             killed: killed(entries),
             tasks,
             objects,
-            frames,
-            tokens,
+            frames: frame_counts(tables, entries),
+            tokens: token_counts(tables, entries),
         })
     }
 }

@@ -7,10 +7,11 @@ ghost use Rattle.report_tables.specs.Json as spec;
 
 use crate::history_facts::Facts;
 use crate::lines::{activity, append, state_name};
-use crate::rows::{LiveTask, MappedObject, ObjectFacts, TaskFacts};
+use crate::rows::{ObjectFacts, TaskFacts};
 use kern_ids::entries::NoMemory;
 use kern_ids::replies::{FrameCounts, TokenCounts};
 use serde_json::{Value, json};
+use kernel_tables::standing::{LiveTask, MappedObject};
 use std::alloc::{AllocError, Global};
 
 fn live_value(alloc: Global, live: &LiveTask) -> Result<Value, AllocError>

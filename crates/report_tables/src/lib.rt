@@ -18,7 +18,8 @@ mod why;
 
 pub use history_facts::Facts;
 pub use json_report::json_text;
-pub use rows::{LiveTask, MappedObject, ObjectFacts, TaskFacts};
+pub use kernel_tables::standing::{LiveTask, MappedObject};
+pub use rows::{ObjectFacts, TaskFacts};
 pub use table::table_text;
 pub use trial::summary;
 pub use why::why_text;

@@ -8,10 +8,11 @@ use crate::history_facts::Facts;
 use crate::lines::{
     activity, append, push_field, push_spaced_reply, push_word, reply_line, state_name,
 };
-use crate::rows::{LiveTask, MappedObject, ObjectFacts, TaskFacts};
+use crate::rows::{ObjectFacts, TaskFacts};
 use kern_ids::entries::NoMemory;
 use kern_ids::lines::LineBuf;
 use kern_ids::replies::Reply;
+use kernel_tables::standing::{LiveTask, MappedObject};
 use std::alloc::Global;
 
 fn head_line(entries: usize, purged: usize, killed: usize) -> LineBuf

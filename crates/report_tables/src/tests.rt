@@ -2,7 +2,7 @@ use crate::{Facts, json_text, summary, table_text, why_text};
 use kern_ids::entries::{EntryList, NoMemory};
 use kernel_model::scenario::Scenario;
 use scenario_text::read_scenario;
-use serial_run::run_serial;
+use serial_run::{run_kernel, run_serial};
 use std::alloc::Global;
 use std::process::Abort;
 use std::test::Fail;
@@ -37,13 +37,18 @@ const SHARED: &[u8] =
 const STORED: &[u8] =
     b"jetlab 1\nsystem frames 8 target 8 inactive 1 store 1 critical 0 delay 3\ntask 0 band 5 active 65536 soft inactive 65536 soft\nobject 0 task 0 pages 3\nthread 0 task 0\nmap 0\nwrite 0 0 61\nwrite 0 4096 62\nread 0 8192 1\nactive 1\nthread 1 kernel\nscan\nscan\nscan\nscan\nscan\norder 0 0 0 0 1 1 1 1 0 1\nend\n";
 
-// A scenario that is read without a fault, and its history.
-fn run<R: Abort>(rt: &R, alloc: Global, text: &[u8]) -> Result<(Scenario, EntryList), NoMemory> {
+// A scenario that is read without a fault.
+fn read<R: Abort>(rt: &R, alloc: Global, text: &[u8]) -> Result<Scenario, NoMemory> {
     assert!(rt; text.len() < 1 << 31);
-    let scenario = match read_scenario(alloc, text) {
-        Ok(scenario) => scenario,
-        Err(_) => return Err(NoMemory),
-    };
+    match read_scenario(alloc, text) {
+        Ok(scenario) => Ok(scenario),
+        Err(_) => Err(NoMemory),
+    }
+}
+
+// Such a scenario and its history.
+fn run<R: Abort>(rt: &R, alloc: Global, text: &[u8]) -> Result<(Scenario, EntryList), NoMemory> {
+    let scenario = read(rt, alloc, text)?;
     let history = run_serial(alloc, &scenario)?;
     Ok((scenario, history))
 }
@@ -164,8 +169,9 @@ fn tables(rt: HostRuntime) -> Result<(), Fail> {
             "{\"entries\":10,\"frames\":[6,1,1,1,3,2],\"killed\":0,\"objects\":[[\"nonvolatile\",1,1,1]],\"purged\":0,\"tasks\":[[5,\"active\",2,0,1,0,3]],\"tokens\":[0,0,0,0,0,0,0,0,0,0,0,0]}\n",
         ),
     ] {
-        let (scenario, history) = run(&rt, alloc, text)?;
-        let facts = Facts::of_history(alloc, scenario.boot(), history.as_slice())?;
+        let scenario = read(&rt, alloc, text)?;
+        let kernel = run_kernel(alloc, &scenario)?;
+        let facts = Facts::of_kernel(alloc, scenario.boot(), kernel.kernel())?;
         assert_eq!(rt;
             table_text(alloc, &facts)?.as_slice(),
             table.as_bytes(),

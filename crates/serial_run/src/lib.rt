@@ -24,10 +24,10 @@ fn take_turn(kernel: &mut OneThread, who: ThreadId, call: &Call) -> Result<(), N
     Ok(())
 }
 
-/// The history of the scenario's turns.
-pub fn run_serial(alloc: Global, scenario: &Scenario) -> Result<EntryList, NoMemory>
-    ensures serial { IfOk result (λ h. h.list ≡ serial scenario.now) }
-    ensures legal { IfOk result (λ h. Legal scenario.now.boot h.list) }
+/// A kernel that has made the calls of the scenario's turns.
+pub fn run_kernel(alloc: Global, scenario: &Scenario) -> Result<OneThread, NoMemory>
+    ensures boot { IfOk result (λ k. k.boot ≡ scenario.now.boot) }
+    ensures serial { IfOk result (λ k. k.history ≡ serial scenario.now) }
 {
     scenario.valid();
     let mut kernel = OneThread::boot(alloc, scenario.boot())?;
@@ -35,6 +35,15 @@ pub fn run_serial(alloc: Global, scenario: &Scenario) -> Result<EntryList, NoMem
     'turns: while let Some(turn) = turns.next() {
         take_turn(&mut kernel, turn.0, turn.1)?;
     }
+    Ok(kernel)
+}
+
+/// The history of the scenario's turns.
+pub fn run_serial(alloc: Global, scenario: &Scenario) -> Result<EntryList, NoMemory>
+    ensures serial { IfOk result (λ h. h.list ≡ serial scenario.now) }
+    ensures legal { IfOk result (λ h. Legal scenario.now.boot h.list) }
+{
+    let kernel = run_kernel(alloc, scenario)?;
     kernel.legal();
     Ok(kernel.into_history())
 }

@@ -8,5 +8,5 @@ pub loop-k-preserved : goal.loop-k-preserved
 loop-k-preserved c =
     c.push_reserved.ensures.items
     ∙ ap₂ (λ (rows : List ObjectFacts) (row : ObjectFacts). rows ++ row ∷ []) (c.reserve.ensures.items ∙ c.loop-k.invariant)
-    (c.in_ok-facts.ensures ∙ ap (object_facts c.args.boot.now (reverse c.args.entries.now)) c.object_id.ensures)
+    (c.object_facts-facts.ensures ∙ ap (object_facts c.args.boot.now (reverse c.args.entries.now)) c.object_id.ensures)
     ∙ sym (table_more (object_facts c.args.boot.now (reverse c.args.entries.now)) c.loop-k.k)

@@ -5,3 +5,6 @@ use Rattle.report_tables.proofs.history_facts.object_table.Given as goal
 
 abbrev pub invariant-loop-k : goal.invariant-loop-k
 invariant-loop-k l = l.table.items ≡ map (object_facts l.boot (reverse l.entries)) (range_with_len 0 l.k)
+
+abbrev pub ghost-object_facts : goal.ghost-object_facts
+ghost-object_facts a = reverse a._entries.now

@@ -1,5 +1,5 @@
 use Rattle.std.proofs.Common.{ℕ, ◌<◌, List, get_or, ◌∙◌, subst}
-use Rattle.kernel_tables.proofs.Standing.{band-is, task-is}
+use Rattle.kernel_tables.proofs.StandingLemmas.{band-is, task-is}
 use Rattle.kernel_tables.proofs.parts.Parts.live_task.Goals as goal
 
 pub is_active-requires : goal.is_active-requires

@@ -5,7 +5,7 @@ use Rattle.kernel_model.specs.Pages.{is_active, is_inactive, is_stored}
 use Rattle.page_queues.specs.Pages.{active as active_keys, inactive as inactive_keys, stored as stored_keys}
 use Rattle.page_queues.specs.declared.ObjectPlaces.{ObjectPlaces}
 use Rattle.kernel_tables.proofs.ObjectCharges.{object-count}
-use Rattle.kernel_tables.proofs.Standing.{object-is}
+use Rattle.kernel_tables.proofs.StandingLemmas.{object-is}
 use Rattle.kernel_tables.proofs.parts.Parts.mapped_object.Goals as goal
 
 pub object_counts-requires : goal.object_counts-requires
