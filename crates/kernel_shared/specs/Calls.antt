@@ -5,7 +5,7 @@ use Rattle.kern_ids.specs.declared.calls.Call.{Call}
 use Rattle.kern_ids.specs.declared.replies.Reply.{Reply}
 use Rattle.kernel_model.specs.System.{System}
 use Rattle.kernel_model.specs.Histories.{Legal}
-use Rattle.turn_lock.specs.Histories.{StartsWith}
+use Rattle.turn_lock.specs.Histories.{StartsWith, entries_of}
 use Rattle.turn_lock.specs.Passes.{TableView, PassView, IsPassOf, HoldsNothing}
 
 -- the bytes of an object, as a list of the places whose byte isn't 0
@@ -40,6 +40,10 @@ pub record HasMade (t : KernelTable) (old new : KernelPass) (call : Call) (reply
   pub seen : new.seen ≡ before ++ entry_of old call reply ∷ []
   pub mine : new.mine ≡ old.mine ++ entry_of old call reply ∷ []
   pub legal : Legal t.base new.seen
+
+-- what the pass has seen of its own number is just what it made
+abbrev pub KnowsOwn : KernelPass → Type 0
+KnowsOwn p = entries_of (λ e. e.who) p.number p.seen ≡ p.mine
 
 -- how many passes a kernel has: one a thread, and at least one
 abbrev pub pass_count : List Rattle.kernel_model.specs.declared.boot.Side.Side → ℕ

@@ -2,7 +2,7 @@
 
 ghost use Rattle.std.specs.Prelude.{◌≡◌, IsTrue, IfOk, OnErr};
 ghost use Rattle.kernel_model.specs.Histories.{fits};
-ghost use Rattle.kernel_shared.specs.Calls.{IsIdleOf, IsSamePass, HasMade};
+ghost use Rattle.kernel_shared.specs.Calls.{IsIdleOf, IsSamePass, HasMade, KnowsOwn};
 
 use crate::gate::Gate;
 use crate::shared::{Pass, SharedKernel};
@@ -27,6 +27,7 @@ impl SharedKernel {
         ensures kept { IsSamePass self.now pass.old pass.new }
         ensures made { IfOk result (HasMade self.now pass.old pass.new (Call.Map obj)) }
         ensures none { OnErr result (pass.new.mine ≡ pass.old.mine) }
+        ensures own { KnowsOwn pass.new }
     {
         self.call(rt, gate, pass, Call::Map { obj })
     }
@@ -44,6 +45,7 @@ impl SharedKernel {
         ensures kept { IsSamePass self.now pass.old pass.new }
         ensures made { IfOk result (HasMade self.now pass.old pass.new (Call.Unmap obj)) }
         ensures none { OnErr result (pass.new.mine ≡ pass.old.mine) }
+        ensures own { KnowsOwn pass.new }
     {
         self.call(rt, gate, pass, Call::Unmap { obj })
     }
@@ -63,6 +65,7 @@ impl SharedKernel {
         ensures kept { IsSamePass self.now pass.old pass.new }
         ensures made { IfOk result (HasMade self.now pass.old pass.new (Call.Write obj off bytes)) }
         ensures none { OnErr result (pass.new.mine ≡ pass.old.mine) }
+        ensures own { KnowsOwn pass.new }
     {
         self.call(rt, gate, pass, Call::Write { obj, off, bytes })
     }
@@ -82,6 +85,7 @@ impl SharedKernel {
         ensures kept { IsSamePass self.now pass.old pass.new }
         ensures made { IfOk result (HasMade self.now pass.old pass.new (Call.Read obj off len)) }
         ensures none { OnErr result (pass.new.mine ≡ pass.old.mine) }
+        ensures own { KnowsOwn pass.new }
     {
         self.call(rt, gate, pass, Call::Read { obj, off, len })
     }
@@ -100,6 +104,7 @@ impl SharedKernel {
         ensures kept { IsSamePass self.now pass.old pass.new }
         ensures made { IfOk result (HasMade self.now pass.old pass.new (Call.SetState obj word)) }
         ensures none { OnErr result (pass.new.mine ≡ pass.old.mine) }
+        ensures own { KnowsOwn pass.new }
     {
         self.call(rt, gate, pass, Call::SetState { obj, word })
     }
@@ -117,6 +122,7 @@ impl SharedKernel {
         ensures kept { IsSamePass self.now pass.old pass.new }
         ensures made { IfOk result (HasMade self.now pass.old pass.new (Call.GetState obj)) }
         ensures none { OnErr result (pass.new.mine ≡ pass.old.mine) }
+        ensures own { KnowsOwn pass.new }
     {
         self.call(rt, gate, pass, Call::GetState { obj })
     }
@@ -134,6 +140,7 @@ impl SharedKernel {
         ensures kept { IsSamePass self.now pass.old pass.new }
         ensures made { IfOk result (HasMade self.now pass.old pass.new (Call.Active on)) }
         ensures none { OnErr result (pass.new.mine ≡ pass.old.mine) }
+        ensures own { KnowsOwn pass.new }
     {
         self.call(rt, gate, pass, Call::Active { on })
     }
@@ -150,6 +157,7 @@ impl SharedKernel {
         ensures kept { IsSamePass self.now pass.old pass.new }
         ensures made { IfOk result (HasMade self.now pass.old pass.new Call.Ledger) }
         ensures none { OnErr result (pass.new.mine ≡ pass.old.mine) }
+        ensures own { KnowsOwn pass.new }
     {
         self.call(rt, gate, pass, Call::Ledger)
     }
@@ -166,6 +174,7 @@ impl SharedKernel {
         ensures kept { IsSamePass self.now pass.old pass.new }
         ensures made { IfOk result (HasMade self.now pass.old pass.new Call.Exit) }
         ensures none { OnErr result (pass.new.mine ≡ pass.old.mine) }
+        ensures own { KnowsOwn pass.new }
     {
         self.call(rt, gate, pass, Call::Exit)
     }
@@ -182,6 +191,7 @@ impl SharedKernel {
         ensures kept { IsSamePass self.now pass.old pass.new }
         ensures made { IfOk result (HasMade self.now pass.old pass.new Call.PurgeOne) }
         ensures none { OnErr result (pass.new.mine ≡ pass.old.mine) }
+        ensures own { KnowsOwn pass.new }
     {
         self.call(rt, gate, pass, Call::PurgeOne)
     }
@@ -198,6 +208,7 @@ impl SharedKernel {
         ensures kept { IsSamePass self.now pass.old pass.new }
         ensures made { IfOk result (HasMade self.now pass.old pass.new Call.Forced) }
         ensures none { OnErr result (pass.new.mine ≡ pass.old.mine) }
+        ensures own { KnowsOwn pass.new }
     {
         self.call(rt, gate, pass, Call::Forced)
     }
@@ -214,6 +225,7 @@ impl SharedKernel {
         ensures kept { IsSamePass self.now pass.old pass.new }
         ensures made { IfOk result (HasMade self.now pass.old pass.new Call.Scan) }
         ensures none { OnErr result (pass.new.mine ≡ pass.old.mine) }
+        ensures own { KnowsOwn pass.new }
     {
         self.call(rt, gate, pass, Call::Scan)
     }
@@ -230,6 +242,7 @@ impl SharedKernel {
         ensures kept { IsSamePass self.now pass.old pass.new }
         ensures made { IfOk result (HasMade self.now pass.old pass.new Call.Tick) }
         ensures none { OnErr result (pass.new.mine ≡ pass.old.mine) }
+        ensures own { KnowsOwn pass.new }
     {
         self.call(rt, gate, pass, Call::Tick)
     }
@@ -246,6 +259,7 @@ impl SharedKernel {
         ensures kept { IsSamePass self.now pass.old pass.new }
         ensures made { IfOk result (HasMade self.now pass.old pass.new Call.Jetsam) }
         ensures none { OnErr result (pass.new.mine ≡ pass.old.mine) }
+        ensures own { KnowsOwn pass.new }
     {
         self.call(rt, gate, pass, Call::Jetsam)
     }
@@ -264,6 +278,7 @@ impl SharedKernel {
         ensures kept { IsSamePass self.now pass.old pass.new }
         ensures made { IfOk result (HasMade self.now pass.old pass.new (Call.SetBand task band)) }
         ensures none { OnErr result (pass.new.mine ≡ pass.old.mine) }
+        ensures own { KnowsOwn pass.new }
     {
         self.call(rt, gate, pass, Call::SetBand { task, band })
     }
@@ -283,6 +298,7 @@ impl SharedKernel {
         ensures kept { IsSamePass self.now pass.old pass.new }
         ensures made { IfOk result (HasMade self.now pass.old pass.new (Call.SetLimits task active inactive)) }
         ensures none { OnErr result (pass.new.mine ≡ pass.old.mine) }
+        ensures own { KnowsOwn pass.new }
     {
         self.call(
             rt,
@@ -308,6 +324,7 @@ impl SharedKernel {
         ensures kept { IsSamePass self.now pass.old pass.new }
         ensures made { IfOk result (HasMade self.now pass.old pass.new Call.Info) }
         ensures none { OnErr result (pass.new.mine ≡ pass.old.mine) }
+        ensures own { KnowsOwn pass.new }
     {
         self.call(rt, gate, pass, Call::Info)
     }
@@ -324,6 +341,7 @@ impl SharedKernel {
         ensures kept { IsSamePass self.now pass.old pass.new }
         ensures made { IfOk result (HasMade self.now pass.old pass.new Call.Purgeables) }
         ensures none { OnErr result (pass.new.mine ≡ pass.old.mine) }
+        ensures own { KnowsOwn pass.new }
     {
         self.call(rt, gate, pass, Call::Purgeables)
     }

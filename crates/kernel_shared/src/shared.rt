@@ -8,7 +8,7 @@ ghost use Rattle.kernel_model.specs.Valid.{IsValidBoot};
 ghost use Rattle.kernel_core.specs.Kernels.{SeesBytes};
 ghost use Rattle.turn_lock.specs.Histories.{StartsWith, longer, entries_of, list_in};
 ghost use Rattle.turn_lock.specs.Passes.{IsPassOf, HoldsNothing, IsNewPassOf, gathered_by, numbers_of, weight_of};
-ghost use Rattle.kernel_shared.specs.Calls.{IsIdleOf, IsSamePass, HasMade, pass_count};
+ghost use Rattle.kernel_shared.specs.Calls.{IsIdleOf, IsSamePass, HasMade, KnowsOwn, pass_count};
 ghost use Rattle.kernel_shared.specs.Steps.{IsEntryMade, MayTouch, IsTried, IsLooked};
 ghost use Rattle.object_effects.specs.Touches.{NeedsAtMost, named_number, needed_number};
 
@@ -225,9 +225,8 @@ impl SharedKernel {
         }
     }
 
-    /// Makes a call. Its entry is the last of the history at the moment when it gives the turn up. Waits for
-    /// the turn, and for the word of the object whose bytes it needs. Without memory no entry is made.
-    pub fn call<R: Wait, G: Gate>(
+    // Makes a call: with the object that it names, or that it was seen to need, until it needs no other.
+    fn make_call<R: Wait, G: Gate>(
         &self,
         rt: &R,
         gate: &G,
@@ -254,6 +253,27 @@ impl SharedKernel {
             }
         }
         unreachable!()
+    }
+
+    /// Makes a call. Its entry is the last of the history at the moment when it gives the turn up. Waits for
+    /// the turn, and for the word of the object whose bytes it needs. Without memory no entry is made.
+    pub fn call<R: Wait, G: Gate>(
+        &self,
+        rt: &R,
+        gate: &G,
+        pass: &mut Pass,
+        call: Call,
+    ) -> Result<Reply, NoMemory>
+        requires idle { IsIdleOf self.now pass.old }
+        requires fits { IsTrue (fits self.now.base pass.old.number call) }
+        ensures kept { IsSamePass self.now pass.old pass.new }
+        ensures made { IfOk result (HasMade self.now pass.old pass.new call) }
+        ensures none { OnErr result (pass.new.mine ≡ pass.old.mine) }
+        ensures own { KnowsOwn pass.new }
+    {
+        let made = self.make_call(rt, gate, pass, call);
+        let _number = pass.number();
+        made
     }
 
     /// How many frames are free after a history that the pass has then seen. It neither waits nor takes memory.

@@ -1,7 +1,7 @@
 use Rattle.std.proofs.Common.{◌≡◌}
 use Rattle.kernel_shared.specs.Calls.{IsSamePass}
 use Rattle.kernel_shared.specs.Steps.{IsWanted}
-use Rattle.kernel_shared.proofs.shared.SharedKernel.call.Given as goal
+use Rattle.kernel_shared.proofs.shared.SharedKernel.make_call.Given as goal
 
 abbrev pub invariant-loop : goal.invariant-loop
 invariant-loop g l = record {
