@@ -42,15 +42,15 @@ band-is boot past wishes bands ages t valid are small s l alive =
 
 pub task-is : (boot : System) (past : List Entry) (t b : ℕ) (a : Bool) (c : Counts) → b ≡ band boot past t → a ≡ active boot past t → c ≡ counts boot past t
     → record { band = b; active = a; counts = c } ≡ live_task boot past t
-task-is boot past t b a c bs as cs =
-    ap (λ (x : ℕ). record { band = x; active = a; counts = c }) bs
-    ∙ ap (λ (x : Bool). record { band = band boot past t; active = x; counts = c }) as
-    ∙ ap (λ (x : Counts). record { band = band boot past t; active = active boot past t; counts = x }) cs
+task-is boot past t b a c in_band goes has =
+    ap (λ (x : ℕ). record { band = x; active = a; counts = c }) in_band
+    ∙ ap (λ (x : Bool). record { band = band boot past t; active = x; counts = c }) goes
+    ∙ ap (λ (x : Counts). record { band = band boot past t; active = active boot past t; counts = x }) has
 
 pub object-is : (boot : System) (past : List Entry) (o : ℕ) (s : State) (a i n : ℕ) → s ≡ state past o → a ≡ pages_at boot past is_active o → i ≡ pages_at boot past is_inactive o → n ≡ pages_at boot past is_stored o
     → record { state = s; active = a; inactive = i; stored = n } ≡ mapped_object boot past o
-object-is boot past o s a i n ss as is ns =
-    ap (λ (x : State). record { state = x; active = a; inactive = i; stored = n }) ss
-    ∙ ap (λ (x : ℕ). record { state = state past o; active = x; inactive = i; stored = n }) as
-    ∙ ap (λ (x : ℕ). record { state = state past o; active = pages_at boot past is_active o; inactive = x; stored = n }) is
-    ∙ ap (λ (x : ℕ). record { state = state past o; active = pages_at boot past is_active o; inactive = pages_at boot past is_inactive o; stored = x }) ns
+object-is boot past o s a i n in_state actives inactives storeds =
+    ap (λ (x : State). record { state = x; active = a; inactive = i; stored = n }) in_state
+    ∙ ap (λ (x : ℕ). record { state = state past o; active = x; inactive = i; stored = n }) actives
+    ∙ ap (λ (x : ℕ). record { state = state past o; active = pages_at boot past is_active o; inactive = x; stored = n }) inactives
+    ∙ ap (λ (x : ℕ). record { state = state past o; active = pages_at boot past is_active o; inactive = pages_at boot past is_inactive o; stored = x }) storeds

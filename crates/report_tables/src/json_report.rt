@@ -10,8 +10,8 @@ use crate::lines::{activity, append, state_name};
 use crate::rows::{ObjectFacts, TaskFacts};
 use kern_ids::entries::NoMemory;
 use kern_ids::replies::{FrameCounts, TokenCounts};
-use serde_json::{Value, json};
 use kernel_tables::standing::{LiveTask, MappedObject};
+use serde_json::{Value, json};
 use std::alloc::{AllocError, Global};
 
 fn live_value(alloc: Global, live: &LiveTask) -> Result<Value, AllocError>
