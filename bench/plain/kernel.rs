@@ -1,7 +1,7 @@
 //! The kernel over plain tables: what `crates/kernel_core` does, with no proof. Pages are kept in rings of indices, groups and bands in
 //! short vectors, tokens as deadlines.
 
-use crate::model::{Boot, Call, Counts, Move, Reply, State};
+use crate::model::{Boot, ByteLine, Call, Counts, Move, Reply, State, TaskLine};
 
 const ABSENT: u8 = 0;
 const ACTIVE: u8 = 1;
@@ -22,35 +22,35 @@ impl Ring {
     }
 }
 
-struct Object {
-    mappers: u64,
-    state: State,
-    queue: usize,
-    group: usize,
+pub struct Object {
+    pub mappers: u64,
+    pub state: State,
+    pub queue: usize,
+    pub group: usize,
     written: [u64; 4],
-    active: u32,
-    inactive: u32,
-    stored: u32,
+    pub active: u32,
+    pub inactive: u32,
+    pub stored: u32,
     pages: u32,
 }
 
-struct Task {
-    live: bool,
-    active: bool,
+pub struct Task {
+    pub live: bool,
+    pub active: bool,
     wish: u8,
-    band: usize,
+    pub band: usize,
     age: Option<u32>,
-    limits: [(u32, bool); 2],
+    pub limits: [(u32, bool); 2],
     counts: [u32; 4],
 }
 
 pub struct Kernel<'a> {
-    boot: &'a Boot,
-    objects: Vec<Object>,
-    tasks: Vec<Task>,
+    pub boot: &'a Boot,
+    pub objects: Vec<Object>,
+    pub tasks: Vec<Task>,
     bands: Vec<Vec<usize>>,
     groups: [[Vec<usize>; 8]; 3],
-    deadlines: [Vec<u64>; 3],
+    pub deadlines: [Vec<u64>; 3],
     place: Vec<u8>,
     mark: Vec<bool>,
     next: Vec<u32>,
@@ -132,7 +132,7 @@ impl<'a> Kernel<'a> {
         self.boot.frames - self.active.len - self.inactive.len
     }
 
-    fn left(&self) -> u64 {
+    pub fn left(&self) -> u64 {
         self.entered - u64::from(self.inactive.len)
     }
 
@@ -253,7 +253,7 @@ impl<'a> Kernel<'a> {
         self.deadlines[queue].first().is_some_and(|&d| d <= self.left())
     }
 
-    fn choice(&self) -> Option<(usize, usize)> {
+    pub fn choice(&self) -> Option<(usize, usize)> {
         let queue = (0..3).find(|&q| self.ripe(q))?;
         if queue == 0 {
             return Some((0, self.groups[0][0][0]));
@@ -375,8 +375,8 @@ impl<'a> Kernel<'a> {
                 self.cease(t, o);
                 Reply::Unmapped
             }
-            Call::Write(_, off, bytes) => self.access(o, *off, bytes.len() as u32, true).unwrap_or(Reply::Wrote),
-            Call::Read(_, off, len) => self.access(o, *off, *len, false).unwrap_or(Reply::Bytes(Vec::new())),
+            Call::Write(_, off, bytes) => self.access(o, *off, bytes.as_slice().len() as u32, true).unwrap_or(Reply::Wrote),
+            Call::Read(_, off, len) => self.access(o, *off, *len, false).unwrap_or(Reply::Bytes(ByteLine::new(&[]))),
             Call::Set(_, word) => self.set(o, *word),
             _ => Reply::Is(self.objects[o].state),
         }
@@ -484,14 +484,7 @@ impl<'a> Kernel<'a> {
                 self.tasks[t as usize].limits = [inactive, active];
                 Reply::Limited
             }
-            Call::Info => Reply::Frames([
-                u64::from(self.free()),
-                u64::from(self.active.len),
-                u64::from(self.inactive.len),
-                u64::from(self.stored),
-                self.entered,
-                self.left(),
-            ]),
+            Call::Info => Reply::Frames(self.frames()),
             _ => Reply::Tokens(self.tokens()),
         }
     }
@@ -560,7 +553,7 @@ impl<'a> Kernel<'a> {
             self.tasks[t as usize].age = None;
             self.put_in_band(t as usize, Some(0));
         }
-        Reply::Aged(aged)
+        Reply::Aged(TaskLine::new(&aged))
     }
 
     fn jetsam(&mut self) -> Reply {
@@ -591,6 +584,11 @@ impl<'a> Kernel<'a> {
         let (t, cause) = soft.map_or((first, "pressure"), |t| (t, "highwater"));
         self.end(t);
         Reply::Killed(t as u32, cause)
+    }
+
+    pub fn frames(&self) -> [u64; 6] {
+        let counts = [self.free(), self.active.len, self.inactive.len, self.stored].map(u64::from);
+        [counts[0], counts[1], counts[2], counts[3], self.entered, self.left()]
     }
 
     pub fn counts(&self, t: usize) -> Counts {

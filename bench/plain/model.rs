@@ -1,4 +1,42 @@
-//! What a scenario and a history hold.
+//! What a scenario and a history hold: the same types as the program's, so bytes and tasks stand in line.
+
+/// At most 256 bytes.
+#[derive(Clone, Copy, PartialEq, Eq)]
+pub struct ByteLine {
+    bytes: [u8; 256],
+    len: usize,
+}
+
+impl ByteLine {
+    pub fn new(from: &[u8]) -> ByteLine {
+        let mut bytes = [0; 256];
+        bytes[..from.len()].copy_from_slice(from);
+        ByteLine { bytes, len: from.len() }
+    }
+
+    pub fn as_slice(&self) -> &[u8] {
+        &self.bytes[..self.len]
+    }
+}
+
+/// At most 64 tasks.
+#[derive(Clone, Copy, PartialEq, Eq)]
+pub struct TaskLine {
+    tasks: [u32; 64],
+    len: usize,
+}
+
+impl TaskLine {
+    pub fn new(from: &[u32]) -> TaskLine {
+        let mut tasks = [0; 64];
+        tasks[..from.len()].copy_from_slice(from);
+        TaskLine { tasks, len: from.len() }
+    }
+
+    pub fn as_slice(&self) -> &[u32] {
+        &self.tasks[..self.len]
+    }
+}
 
 #[derive(Clone, Copy, PartialEq, Eq)]
 pub enum State {
@@ -42,12 +80,12 @@ pub struct Boot {
     pub sides: Vec<Option<u32>>,
 }
 
-#[derive(Clone, PartialEq, Eq)]
+#[derive(Clone, Copy, PartialEq, Eq)]
 pub enum Call {
     Map(u32),
     Attach(u32),
     Unmap(u32),
-    Write(u32, u32, Vec<u8>),
+    Write(u32, u32, ByteLine),
     Read(u32, u32, u32),
     Set(u32, u32),
     Get(u32),
@@ -76,13 +114,13 @@ impl Call {
 
 pub type Counts = [u32; 5];
 
-#[derive(PartialEq, Eq)]
+#[derive(Clone, Copy, PartialEq, Eq)]
 pub enum Reply {
     Mapped,
     Attached,
     Unmapped,
     Wrote,
-    Bytes(Vec<u8>),
+    Bytes(ByteLine),
     Old(State),
     Is(State),
     Was(bool),
@@ -93,7 +131,7 @@ pub enum Reply {
     Enough,
     Idle,
     Moved(Move, u32, u32),
-    Aged(Vec<u32>),
+    Aged(TaskLine),
     Quiet,
     NoVictim,
     Killed(u32, &'static str),
@@ -105,6 +143,7 @@ pub enum Reply {
     Shortage(u32, u32),
 }
 
+#[derive(Clone, Copy)]
 pub struct Entry {
     pub who: usize,
     pub call: Call,

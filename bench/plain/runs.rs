@@ -1,7 +1,8 @@
-//! `serial`, `run`, `check` and `table`, with no proof.
+//! The commands on scenarios and histories, with no proof.
 
 use crate::kernel::Kernel;
-use crate::model::{Call, Entry, Reply, Scenario};
+use crate::model::{ByteLine, Call, Entry, Reply, Scenario};
+use crate::reports::{json, table, why};
 use crate::text::{read_call, read_scenario, write_history, write_reply, write_scenario};
 use std::io::Write;
 use std::sync::Mutex;
@@ -21,19 +22,19 @@ impl Body {
         self.bytes[off as usize..end].copy_from_slice(bytes);
     }
 
-    fn read(&self, off: u32, len: u32) -> Vec<u8> {
-        let len = len.min(256);
-        let end = self.bytes.len().min(off as usize + len as usize);
-        let mut seen = self.bytes.get(off as usize..end).unwrap_or(&[]).to_vec();
-        seen.resize(len as usize, 0);
-        seen
+    fn read(&self, off: u32, len: u32) -> ByteLine {
+        let (off, len) = (off as usize, len.min(256) as usize);
+        let mut seen = [0; 256];
+        let there = self.bytes.get(off..self.bytes.len().min(off + len)).unwrap_or(&[]);
+        seen[..there.len()].copy_from_slice(there);
+        ByteLine::new(&seen[..len])
     }
 }
 
 /// What the reply leaves in the bytes that the call needed.
 fn after(body: &mut Body, call: &Call, reply: &Reply) {
     match (call, reply) {
-        (Call::Write(_, off, bytes), Reply::Wrote) => body.write(*off, bytes),
+        (Call::Write(_, off, bytes), Reply::Wrote) => body.write(*off, bytes.as_slice()),
         (Call::Map(_), Reply::Mapped) | (_, Reply::Purged(_)) => body.bytes.clear(),
         (Call::Set(_, word), Reply::Old(_)) if word % 4 == 2 => body.bytes.clear(),
         _ => {}
@@ -80,7 +81,7 @@ pub fn serial(scenario: &Scenario) -> Vec<Entry> {
     let mut bodies: Vec<Body> = scenario.boot.objects.iter().map(|_| Body::default()).collect();
     turns(scenario)
         .into_iter()
-        .map(|(who, call)| Entry { who, call: call.clone(), reply: step(&mut kernel, &mut bodies, who, call) })
+        .map(|(who, call)| Entry { who, call: *call, reply: step(&mut kernel, &mut bodies, who, call) })
         .collect()
 }
 
@@ -115,54 +116,69 @@ fn shared(kernel: &Mutex<(Kernel<'_>, Vec<Entry>)>, bodies: &[Mutex<Body>], who:
             reply = seen(body, call, reply);
             after(body, call, &reply);
         }
-        turn.1.push(Entry { who, call: call.clone(), reply });
+        turn.1.push(Entry { who, call: *call, reply });
         return;
     }
 }
 
-/// Nothing where the history is legal and whole, else the first wrong line.
-fn fault(scenario: &Scenario, history: &str, out: &mut Vec<u8>) -> (Vec<u8>, usize) {
-    let mut kernel = Kernel::new(&scenario.boot);
+/// Takes the entries of a history one after the other, from a kernel without any. Answers `legal` with all of them, or the line on the
+/// first wrong one.
+fn verdict<'a>(scenario: &'a Scenario, history: &str, kernel: &mut Kernel<'a>, mut seen: impl FnMut(&Entry)) -> String {
     let mut bodies: Vec<Body> = scenario.boot.objects.iter().map(|_| Body::default()).collect();
     let mut at = vec![0; scenario.scripts.len()];
+    let mut due = Vec::new();
     let mut lines = history.lines();
     assert_eq!(lines.next(), Some("history"));
     for (place, line) in lines.enumerate() {
         if line.starts_with("done ") {
             let short = (0..at.len()).find(|&who| at[who] < scenario.scripts[who].len());
-            let text = short.map_or("legal\n".to_string(), |who| format!("thread {who}: calls missing\n"));
-            return (text.into_bytes(), place);
+            return short.map_or("legal\n".to_string(), |who| format!("thread {who}: calls missing\n"));
         }
         let (left, right) = line.split_once(" = ").expect("an entry");
         let mut words = left.split(' ');
         let who: usize = words.next().and_then(|word| word.parse().ok()).expect("a thread");
         let call = read_call(&mut words).expect("a call");
         if at.get(who).and_then(|&n| scenario.scripts[who].get(n)) != Some(&call) {
-            return (format!("entry {place}: not the next call of its thread\n").into_bytes(), place);
+            return format!("entry {place}: not the next call of its thread\n");
         }
         at[who] += 1;
-        let reply = step(&mut kernel, &mut bodies, who, &call);
-        out.clear();
-        write_reply(out, &reply);
-        if out != right.as_bytes() {
-            let mut text = format!("entry {place}: expected ").into_bytes();
-            text.extend(&*out);
-            text.push(b'\n');
-            return (text, place);
+        let entry = Entry { who, call, reply: step(kernel, &mut bodies, who, &call) };
+        due.clear();
+        write_reply(&mut due, &entry.reply);
+        if due != right.as_bytes() {
+            return format!("entry {place}: expected {}\n", String::from_utf8_lossy(&due));
         }
+        seen(&entry);
     }
     panic!("no done line");
 }
 
+/// What is told of a legal history: `legal`, what stands at its end, or why the entry of this number was answered so.
+fn judge(name: &str, number: usize, scenario: &Scenario, history: &str) -> Vec<u8> {
+    let mut kernel = Kernel::new(&scenario.boot);
+    let mut entries = Vec::new();
+    let verdict = verdict(scenario, history, &mut kernel, |entry| entries.push(*entry));
+    if verdict != "legal\n" {
+        return verdict.into_bytes();
+    }
+    match name {
+        "table" => table(&kernel, &entries),
+        "json" => json(&kernel, &entries),
+        "why" => {
+            let mut before = Kernel::new(&scenario.boot);
+            entries[..number].iter().for_each(|e| drop(before.call(e.who, &e.call)));
+            why(&before, &entries, number)
+        }
+        _ => verdict.into_bytes(),
+    }
+}
+
 /// Answers a command on this text.
-pub fn command(name: &str, text: &str, out: &mut impl Write) {
+pub fn command(name: &str, number: usize, text: &str, out: &mut impl Write) {
     let (scenario, rest) = read_scenario(text);
     let mut answer = Vec::new();
     match name {
-        "check" => {
-            let (verdict, _) = fault(&scenario, rest, &mut answer);
-            answer = verdict;
-        }
+        "check" | "table" | "json" | "why" => answer = judge(name, number, &scenario, rest),
         _ => {
             let history = if name == "run" { run(&scenario) } else { serial(&scenario) };
             write_scenario(&mut answer, &scenario);

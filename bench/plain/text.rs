@@ -1,6 +1,6 @@
 //! The texts, read and written. Bad texts end the program: only good ones are timed.
 
-use crate::model::{Boot, Call, Entry, Move, ObjBoot, Reply, Scenario, State, TaskBoot};
+use crate::model::{Boot, ByteLine, Call, Entry, Move, ObjBoot, Reply, Scenario, State, TaskBoot};
 use std::io::Write;
 
 fn number<T: std::str::FromStr>(word: Option<&str>) -> T {
@@ -12,9 +12,13 @@ fn limit<'a>(words: &mut impl Iterator<Item = &'a str>) -> (u32, bool) {
     (pages, words.next() == Some("fatal"))
 }
 
-fn hex(word: &str) -> Vec<u8> {
+fn hex(word: &str) -> ByteLine {
     let digit = |b: u8| if b < b'a' { b - b'0' } else { b - b'a' + 10 };
-    word.as_bytes().chunks(2).map(|two| digit(two[0]) << 4 | digit(two[1])).collect()
+    let mut bytes = [0; 256];
+    for (to, two) in bytes.iter_mut().zip(word.as_bytes().chunks(2)) {
+        *to = digit(two[0]) << 4 | digit(two[1]);
+    }
+    ByteLine::new(&bytes[..word.len() / 2])
 }
 
 pub fn read_call<'a>(words: &mut impl Iterator<Item = &'a str>) -> Option<Call> {
@@ -102,7 +106,7 @@ fn push_hex(out: &mut Vec<u8>, bytes: &[u8]) {
     }
 }
 
-fn state_word(state: State) -> &'static str {
+pub fn state_word(state: State) -> &'static str {
     match state {
         State::Nonvolatile => "nonvolatile",
         State::Volatile => "volatile",
@@ -121,7 +125,7 @@ pub fn write_call(out: &mut Vec<u8>, call: &Call) {
         Call::Unmap(o) => write!(out, "unmap {o}"),
         Call::Write(o, off, bytes) => {
             let _ = write!(out, "write {o} {off} ");
-            push_hex(out, bytes);
+            push_hex(out, bytes.as_slice());
             Ok(())
         }
         Call::Read(o, off, len) => write!(out, "read {o} {off} {len}"),
@@ -143,7 +147,7 @@ pub fn write_call(out: &mut Vec<u8>, call: &Call) {
     .unwrap();
 }
 
-fn numbers(out: &mut Vec<u8>, word: &str, list: impl IntoIterator<Item = u64>) {
+pub fn numbers(out: &mut Vec<u8>, word: &str, list: impl IntoIterator<Item = u64>) {
     out.extend(word.as_bytes());
     for n in list {
         write!(out, " {n}").unwrap();
@@ -166,7 +170,7 @@ pub fn write_reply(out: &mut Vec<u8>, reply: &Reply) {
         Reply::Limited => "limited",
         Reply::Bytes(bytes) => {
             out.extend(b"bytes ");
-            return push_hex(out, bytes);
+            return push_hex(out, bytes.as_slice());
         }
         Reply::Old(state) => return write!(out, "old {}", state_word(*state)).unwrap(),
         Reply::Is(state) => return write!(out, "state {}", state_word(*state)).unwrap(),
@@ -183,7 +187,7 @@ pub fn write_reply(out: &mut Vec<u8>, reply: &Reply) {
             };
             return write!(out, "{word} {o} {page}").unwrap();
         }
-        Reply::Aged(tasks) => return numbers(out, "aged", tasks.iter().map(|&t| u64::from(t))),
+        Reply::Aged(tasks) => return numbers(out, "aged", tasks.as_slice().iter().map(|&t| u64::from(t))),
         Reply::Killed(t, cause) => return write!(out, "killed {t} {cause}").unwrap(),
         Reply::Frames(all) => return numbers(out, "frames", *all),
         Reply::Tokens(all) => return numbers(out, "tokens", *all),
