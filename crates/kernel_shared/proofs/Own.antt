@@ -5,7 +5,7 @@ use Rattle.turn_lock.specs.Passes.{KeepsLists}
 use Rattle.kernel_shared.specs.Calls.{KernelPass, KnowsOwn}
 use Rattle.kernel_shared.specs.contracts.value.CoreOrderedBody.TheImpl.{ghosts}
 
-first_list : List (ℕ × List Entry) → List Entry
+abbrev first_list : List (ℕ × List Entry) → List Entry
 first_list [] = []
 first_list (g ∷ gs) = g.1
 

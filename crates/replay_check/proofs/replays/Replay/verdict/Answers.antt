@@ -16,8 +16,8 @@ returns-in-Some-clause-history c = λ es stands legal.
     let is = verdict-fault s es c.in-Some.fault (sym stands.fault ∙ ap (λ (v : ReplayView). v.fault) (sym c.self.view_is) ∙ c.in-Some.is) in
     stands.history (stands.fault ∙ (parts-legal s es (sym is ∙ legal)).0)
 
-pub returns-clause-verdict : goal.returns-clause-verdict
-returns-clause-verdict c = λ es stands.
+pub returns-in-None-clause-verdict : goal.returns-in-None-clause-verdict
+returns-in-None-clause-verdict c = λ es stands.
     let s = c.args.scenario.now in
     let inside = c.self.inside in
     let r : ReplayView = record { boot = inside.kernel.boot; history = inside.kernel.history; made = inside.made; fault = inside.fault } in
@@ -26,6 +26,6 @@ returns-clause-verdict c = λ es stands.
     let few : length s.scripts ≤ 32 = let sides = c.valid.ensures.boot.few_sides in let scripts = c.valid.ensures.scripts in omega arith in
     c.end.ensures ∙ verdict-end s es (first_unspent s inside.made (length s.scripts)) (sym held.fault ∙ none) (first_unspent-all s es inside.made few (held.made none))
 
-pub returns-clause-history : goal.returns-clause-history
-returns-clause-history c = λ es stands legal.
+pub returns-in-None-clause-history : goal.returns-in-None-clause-history
+returns-in-None-clause-history c = λ es stands legal.
     stands.history (ap (λ (v : ReplayView). v.fault) (sym c.self.view_is) ∙ c.in-None.is)
