@@ -14,6 +14,8 @@ use Rattle.kernel_model.specs.Groups.{objects_of}
 use Rattle.kernel_model.specs.Answers.{frames_reply, tokens_reply}
 use Rattle.report_tables.specs.Summary.{replies, is_purging, is_killing}
 use Rattle.kernel_tables.specs.Standing.{live_task, mapped_object}
+use Rattle.kernel_tables.specs.Stands.{Stands}
+use Rattle.kernel_tables.specs.Values.{TableValues}
 use Rattle.report_tables.specs.declared.rows.TaskFacts.{TaskFacts}
 use Rattle.report_tables.specs.declared.rows.ObjectFacts.{ObjectFacts}
 
@@ -48,6 +50,10 @@ no_tokens = record { tokens = 0; ripe = 0; next = 0; last = 0 }
 abbrev pub tokens_in : Reply → TokenCounts
 tokens_in (Tokens t) = t
 tokens_in _ = record { obsolete = no_tokens; lifo = no_tokens; fifo = no_tokens }
+
+-- the tables stand for these entries, newest first
+unfoldable pub Tell : TableValues → List Entry → Type 0
+Tell tables past = Stands tables past
 
 -- what stands after these entries, newest first
 unfoldable pub facts_of : System → List Entry → Report

@@ -6,8 +6,8 @@ ghost use Rattle.kern_ids.specs.declared.replies.Reply.TheVariants.{Frames, Toke
 ghost use Rattle.kernel_model.specs.Groups.{objects_of};
 ghost use Rattle.kernel_model.specs.Mapping.{tasks_of};
 ghost use Rattle.kernel_model.specs.Answers.{frames_reply, tokens_reply};
-ghost use Rattle.kernel_tables.specs.Stands.{Stands};
 ghost use Rattle.report_tables.specs.Facts as spec;
+ghost use Rattle.report_tables.specs.Facts.{Tell};
 
 use crate::rows::{ObjectFacts, TaskFacts};
 use crate::trial::{killed, purged};
@@ -46,7 +46,7 @@ impl Model for Facts {
 // The entries are named for the proofs alone, here and below.
 fn task_facts(tables: &Tables, _entries: &[Entry], t: TaskId) -> TaskFacts
     ghost past: { List AnEntry }
-    requires stands { Stands tables.now past }
+    requires tell { Tell tables.now past }
     requires declared { t < length tables.now.boot.tasks }
     ensures { result ≡ spec.task_facts tables.now.boot past t }
 {
@@ -63,7 +63,7 @@ fn task_table(
     tables: &Tables,
     entries: &[Entry],
 ) -> Result<Vec<TaskFacts>, NoMemory>
-    requires stands { Stands tables.now (reverse entries.now) }
+    requires tell { Tell tables.now (reverse entries.now) }
     requires boot { tables.now.boot ≡ boot.now }
     ensures { IfOk result (λ v. v.items ≡ map (spec.task_facts boot.now (reverse entries.now)) (tasks_of boot.now)) }
 {
@@ -92,7 +92,7 @@ fn first_task(boot: &Boot, o: ObjId) -> u32
 
 fn object_facts(boot: &Boot, tables: &Tables, _entries: &[Entry], o: ObjId) -> ObjectFacts
     ghost past: { List AnEntry }
-    requires stands { Stands tables.now past }
+    requires tell { Tell tables.now past }
     requires boot { tables.now.boot ≡ boot.now }
     requires declared { o < length boot.now.objects }
     ensures { result ≡ spec.object_facts boot.now past o }
@@ -111,7 +111,7 @@ fn object_table(
     tables: &Tables,
     entries: &[Entry],
 ) -> Result<Vec<ObjectFacts>, NoMemory>
-    requires stands { Stands tables.now (reverse entries.now) }
+    requires tell { Tell tables.now (reverse entries.now) }
     requires boot { tables.now.boot ≡ boot.now }
     ensures { IfOk result (λ v. v.items ≡ map (spec.object_facts boot.now (reverse entries.now)) (objects_of boot.now)) }
 {
@@ -127,7 +127,7 @@ fn object_table(
 
 fn frame_counts(tables: &Tables, _entries: &[Entry]) -> FrameCounts
     ghost past: { List AnEntry }
-    requires { Stands tables.now past }
+    requires { Tell tables.now past }
     ensures { Frames result ≡ frames_reply tables.now.boot past }
 {
     tables.frame_counts()
@@ -135,10 +135,29 @@ fn frame_counts(tables: &Tables, _entries: &[Entry]) -> FrameCounts
 
 fn token_counts(tables: &Tables, _entries: &[Entry]) -> TokenCounts
     ghost past: { List AnEntry }
-    requires { Stands tables.now past }
+    requires { Tell tables.now past }
     ensures { Tokens result ≡ tokens_reply tables.now.boot past }
 {
     tables.token_counts()
+}
+
+// What stands after these entries, as the tables tell it.
+fn facts(alloc: Global, boot: &Boot, tables: &Tables, entries: &[Entry]) -> Result<Facts, NoMemory>
+    requires tell { Tell tables.now (reverse entries.now) }
+    requires boot { tables.now.boot ≡ boot.now }
+    ensures { IfOk result (λ f. f ≡ spec.facts_of boot.now (reverse entries.now)) }
+{
+    let tasks = task_table(alloc, boot, tables, entries)?;
+    let objects = object_table(alloc, boot, tables, entries)?;
+    Ok(Facts {
+        entries: entries.len(),
+        purged: purged(entries),
+        killed: killed(entries),
+        tasks,
+        objects,
+        frames: frame_counts(tables, entries),
+        tokens: token_counts(tables, entries),
+    })
 }
 
 impl Facts {
@@ -147,18 +166,6 @@ impl Facts {
         requires { kernel.now.boot ≡ boot.now }
         ensures { IfOk result (λ f. f ≡ spec.facts_of boot.now (reverse kernel.now.history)) }
     {
-        let tables = kernel.tables();
-        let entries = kernel.history().as_slice();
-        let tasks = task_table(alloc, boot, tables, entries)?;
-        let objects = object_table(alloc, boot, tables, entries)?;
-        Ok(Facts {
-            entries: entries.len(),
-            purged: purged(entries),
-            killed: killed(entries),
-            tasks,
-            objects,
-            frames: frame_counts(tables, entries),
-            tokens: token_counts(tables, entries),
-        })
+        facts(alloc, boot, kernel.tables(), kernel.history().as_slice())
     }
 }

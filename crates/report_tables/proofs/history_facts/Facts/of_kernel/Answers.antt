@@ -1,9 +1,12 @@
-use Rattle.std.proofs.Common.{ap, reverse}
-use Rattle.report_tables.specs.Facts.{frames_in, tokens_in}
-use Rattle.report_tables.proofs.FactsFrom.{facts_from}
+use Rattle.std.proofs.Common.{◌≡◌, List, reverse, sym, ◌∙◌, subst}
+use Rattle.std.specs.Prelude.{IfOk}
+use Rattle.kern_ids.specs.declared.entries.Entry.{Entry}
+use Rattle.report_tables.specs.Facts.{Tell, facts_of}
 use Rattle.report_tables.proofs.history_facts.Facts.of_kernel.Goals as goal
 
-pub returns : goal.returns
-returns c =
-    facts_from c.args.boot.now c.args.kernel.now.history c.purged.result c.killed.result c.in_ok-tasks.tasks.items c.in_ok-objects.objects.items c.frame_counts.result c.token_counts.result
-    c.purged.ensures c.killed.ensures c.in_ok-tasks.ensures c.in_ok-objects.ensures (ap frames_in c.frame_counts.ensures) (ap tokens_in c.token_counts.ensures)
+pub facts-requires-clause-tell : goal.facts-requires-clause-tell
+unfolding Tell
+facts-requires-clause-tell c = subst (λ (h : List Entry). Tell c.tables.result.now (reverse h)) (sym (c.as_slice.ensures ∙ c.history.ensures)) c.tables.ensures.stands
+
+pub facts-requires-clause-boot : goal.facts-requires-clause-boot
+facts-requires-clause-boot c = c.tables.ensures.boot ∙ c.requires
