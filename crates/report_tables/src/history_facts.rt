@@ -142,7 +142,12 @@ fn token_counts(tables: &Tables, _entries: &[Entry]) -> TokenCounts
 }
 
 // What stands after these entries, as the tables tell it.
-fn facts(alloc: Global, boot: &Boot, tables: &Tables, entries: &[Entry]) -> Result<Facts, NoMemory>
+fn told_facts(
+    alloc: Global,
+    boot: &Boot,
+    tables: &Tables,
+    entries: &[Entry],
+) -> Result<Facts, NoMemory>
     requires tell { Tell tables.now (reverse entries.now) }
     requires boot { tables.now.boot ≡ boot.now }
     ensures { IfOk result (λ f. f ≡ spec.facts_of boot.now (reverse entries.now)) }
@@ -166,6 +171,6 @@ impl Facts {
         requires { kernel.now.boot ≡ boot.now }
         ensures { IfOk result (λ f. f ≡ spec.facts_of boot.now (reverse kernel.now.history)) }
     {
-        facts(alloc, boot, kernel.tables(), kernel.history().as_slice())
+        told_facts(alloc, boot, kernel.tables(), kernel.history().as_slice())
     }
 }

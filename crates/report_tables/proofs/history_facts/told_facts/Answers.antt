@@ -1,7 +1,7 @@
 use Rattle.std.proofs.Common.{ap, reverse}
 use Rattle.report_tables.specs.Facts.{frames_in, tokens_in}
 use Rattle.report_tables.proofs.FactsFrom.{facts_from}
-use Rattle.report_tables.proofs.history_facts.facts.Goals as goal
+use Rattle.report_tables.proofs.history_facts.told_facts.Goals as goal
 
 pub returns : goal.returns
 returns c =
