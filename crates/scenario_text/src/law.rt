@@ -1,10 +1,11 @@
 //! Laws of a scenario's text and of its reading.
 
 ghost use Rattle.std.specs.List.{AllByRecursion};
-ghost use Rattle.std.specs.Prelude.{◌≡◌, ◌≤◌, ◌<◌, ◌^◌, ℕ, List, length, All, IsTrue, Ok};
+ghost use Rattle.std.specs.Prelude.{◌≡◌, ◌≤◌, ◌<◌, ◌++◌, ◌^◌, ℕ, List, length, All, IsTrue, Ok};
 ghost use Rattle.kernel_model.specs.Histories.{names_fit};
 ghost use Rattle.kernel_model.specs.Scenario.{Plan, two};
 ghost use Rattle.line_text.specs.Calls.{HasLine};
+ghost use Rattle.scenario_text.specs.Fronts.{Taken, front_taken};
 ghost use Rattle.scenario_text.specs.Grammar.{scenario_of};
 ghost use Rattle.scenario_text.specs.Text.{scenario_text, HasText};
 
@@ -90,4 +91,9 @@ pub fn reading_undoes_writing()
     ensures valid { (bytes : List ℕ) (s : Plan) → scenario_of bytes ≡ Ok s → HasText s }
     ensures again { (s : Plan) → HasText s → scenario_of (scenario_text s) ≡ Ok s }
     ensures second { (s : Plan) → HasText s → HasText (two s) }
+{}
+
+/// What is read at the front of some bytes is read there too where more bytes stand behind them.
+pub fn front_stays()
+    ensures { (bytes more : List ℕ) (front : Taken) → front_taken bytes ≡ Ok front → front_taken (bytes ++ more) ≡ Ok front }
 {}
