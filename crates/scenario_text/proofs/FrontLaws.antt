@@ -1,5 +1,5 @@
 -- A text begins with a scenario exactly where its first bytes are that scenario's text.
-use Rattle.std.proofs.Common.{◌≡◌, ℕ, ◌+◌, ◌-◌, ◌≤◌, false, eqb, List, [], ◌∷◌, ◌++◌, length, map, take, Result, Ok, refl, sym, ap, ◌∙◌, arith, subst, append_assoc, inl, inr}
+use Rattle.std.proofs.Common.{◌≡◌, ℕ, ◌+◌, ◌-◌, ◌≤◌, false, eqb, List, [], ◌∷◌, ◌++◌, length, map, take, Result, Ok, Err, refl, sym, ap, ◌∙◌, arith, subst, append_assoc, inl, inr}
 use Rattle.std.specs.List.{AllByRecursion, join_with_byte}
 use Rattle.std.proofs.Math.Seq.{take-append_seam}
 use Rattle.std.proofs.lemmas.Bool.{ne_eqb}
@@ -165,7 +165,7 @@ taken-fails (faults.Bad n why) text h = ap (taken_of text) h
 
 taken_read : (text : List ℕ) (said : Result Read (ℕ × Why)) (t : Taken) → taken_of text said ≡ Ok t → (r : Read) × (said ≡ Ok r)
 taken_read text (Ok r) t e = (r, refl)
-taken_read text (Err fault) t e = absurd cc
+taken_read text (Err x) t e = absurd cc
 
 front_begins : (text : List ℕ) (r : Read) → front_of text ≡ Ok r → (text ≡ scenario_text r.plan ++ join_with_byte 10 r.behind) × HasText r.plan
 front_begins text r e =

@@ -1,7 +1,9 @@
 //! Laws of a scenario's text and of its reading.
 
 ghost use Rattle.std.specs.List.{AllByRecursion};
-ghost use Rattle.std.specs.Prelude.{◌≡◌, ◌≤◌, ◌<◌, ◌++◌, ◌^◌, ℕ, List, length, All, IsTrue, Ok};
+ghost use Rattle.std.specs.Prelude.{◌≡◌, ◌≢◌, ◌≤◌, ◌<◌, ◌++◌, ◌^◌, ℕ, List, length, All, IsTrue, Ok, Err};
+ghost use Rattle.kern_ids.specs.declared.faults.Why.TheVariants.{NoEnd};
+ghost use Rattle.kern_ids.specs.declared.faults.Why.{Why};
 ghost use Rattle.kernel_model.specs.Histories.{names_fit};
 ghost use Rattle.kernel_model.specs.Scenario.{Plan, two};
 ghost use Rattle.line_text.specs.Calls.{HasLine};
@@ -93,7 +95,9 @@ pub fn reading_undoes_writing()
     ensures second { (s : Plan) → HasText s → HasText (two s) }
 {}
 
-/// What is read at the front of some bytes is read there too where more bytes stand behind them.
+/// What is read at the front of some bytes is read there too where more bytes stand behind them, and a fault of an
+/// ended line is their fault too.
 pub fn front_stays()
-    ensures { (bytes more : List ℕ) (front : Taken) → front_taken bytes ≡ Ok front → front_taken (bytes ++ more) ≡ Ok front }
+    ensures read { (bytes more : List ℕ) (front : Taken) → front_taken bytes ≡ Ok front → front_taken (bytes ++ more) ≡ Ok front }
+    ensures fault { (bytes more : List ℕ) (line : ℕ) (why : Why) → why ≢ NoEnd → front_taken bytes ≡ Err (line, why) → front_taken (bytes ++ more) ≡ Err (line, why) }
 {}
