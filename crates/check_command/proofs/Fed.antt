@@ -3,14 +3,12 @@ use Rattle.std.proofs.Common.{◌≡◌, ◌≤◌, ◌+◌, ◌-◌, ◌++◌, 
 use Rattle.std.specs.Io.KnownBytes.{Consumes, IsAtEnd}
 use Rattle.std.proofs.KnownBytes.{Consumes-nil, Consumes-trans}
 use Rattle.std.proofs.lemmas.List.{length-take}
-use Rattle.edge.specs.declared.reading.InputFault.{InputFault}
-use Rattle.edge.specs.declared.reading.InputFault.TheVariants as fault
 use Rattle.kernel_model.specs.Scenario.{Plan}
 use Rattle.history_reading.specs.Histories.{history_of}
 use Rattle.piece_check.specs.declared.end.PieceEnd.{PieceEnd}
 use Rattle.piece_check.specs.Pieces.{CheckView, HasRoom, StandsFor, end_of}
-use Rattle.source_front.specs.Stops.{Stops}
-use Rattle.source_front.proofs.Stopped.{stops-behind, stops-memory}
+use Rattle.source_front.proofs.Stopped.{IsTaken}
+use Rattle.source_front.proofs.Opened.{took-none}
 use Rattle.check_command.specs.Checks.{IsEnded}
 
 -- whatever the first check stood for, the second one stands for that and these bytes
@@ -19,17 +17,13 @@ Takes before now bytes = (s : Plan) (n : ℕ) (text : List ℕ) → StandsFor s 
 
 -- bytes of the input were fed, and so many more may come
 pub record IsFed (before now : CheckView) (old new : Option (List ℕ)) (most room : ℕ) : Type 0 where
-  pub bytes : List ℕ
-  pub took : Consumes old new bytes
-  pub count : length bytes + room ≡ most
+  pub taken : IsTaken old new most room
   pub fits : HasRoom now room
-  pub takes : Takes before now bytes
+  pub takes : Takes before now taken.bytes
 
 pub fed-none : (check : CheckView) (old : Option (List ℕ)) (most : ℕ) → HasRoom check most → IsFed check check old old most most
 fed-none check old most fits = record {
-  bytes = [];
-  took = Consumes-nil old;
-  count = refl;
+  taken = record { bytes = []; took = Consumes-nil old; count = refl };
   fits = fits;
   takes = λ s n text h. subst (λ (xs : List ℕ). StandsFor s n xs check) (sym (append-nil text)) h;
 }
@@ -40,39 +34,29 @@ pub fed-more : (before now then : CheckView) (old mid new : Option (List ℕ)) (
 fed-more before now then old mid new most room n piece fed took within few takes fits =
     let long : length (take n piece) ≡ n = omega (arith, length-take n piece, within) in
     let same : room ≡ length (take n piece) + (room - n) = omega (arith, long, few) in
-    let count = fed.count in
+    let bytes = fed.taken.bytes in
+    let count = fed.taken.count in
     record {
-      bytes = fed.bytes ++ take n piece;
-      took = Consumes-trans old mid new fed.bytes (take n piece) fed.took took;
-      count = omega (arith, count, long, few, length-append fed.bytes (take n piece));
+      taken = record {
+        bytes = bytes ++ take n piece;
+        took = Consumes-trans old mid new bytes (take n piece) fed.taken.took took;
+        count = omega (arith, count, long, few, length-append bytes (take n piece));
+      };
       fits = fits (room - n) (subst (HasRoom now) same fed.fits);
       takes = λ s k text h.
-          subst (λ (xs : List ℕ). StandsFor s k xs then) (append_assoc text fed.bytes (take n piece)) (takes s k (text ++ fed.bytes) (fed.takes s k text h));
+          subst (λ (xs : List ℕ). StandsFor s k xs then) (append_assoc text bytes (take n piece)) (takes s k (text ++ bytes) (fed.takes s k text h));
     }
 
 pub fed-ended : (before now : CheckView) (found : PieceEnd) (old mid new : Option (List ℕ)) (most room n : ℕ) (piece : List ℕ) → IsFed before now old mid most room
     → Consumes mid new (take n piece) → n ≡ 0 → IsAtEnd new
     → ((s : Plan) (k : ℕ) (text : List ℕ) → StandsFor s k text now → found ≡ end_of s (history_of k text)) → IsEnded before found old new most
 fed-ended before now found old mid new most room n piece fed took none whole ends =
-    let count = fed.count in
-    let nothing : fed.bytes ++ take n piece ≡ fed.bytes = ap (λ (k : ℕ). fed.bytes ++ take k piece) none ∙ append-nil fed.bytes in
+    let bytes = fed.taken.bytes in
+    let count = fed.taken.count in
     record {
-      rest = fed.bytes;
-      took = subst (Consumes old new) nothing (Consumes-trans old mid new fed.bytes (take n piece) fed.took took);
+      rest = bytes;
+      took = took-none old mid new bytes piece n fed.taken.took took none;
       few = omega (arith, count);
       whole = whole;
-      ends = λ s k text h. ends s k (text ++ fed.bytes) (fed.takes s k text h);
+      ends = λ s k text h. ends s k (text ++ bytes) (fed.takes s k text h);
     }
-
--- the rest is not read on
-pub fed-stops : (e : InputFault) (first now : CheckView) (old mid new : Option (List ℕ)) (before between after most room : ℕ) → IsFed first now old mid most room
-    → before ≤ between → Stops e mid new between after room → Stops e old new before after most
-fed-stops e first now old mid new before between after most room fed grows stops = stops-behind e old mid new before between after room most fed.bytes fed.took fed.count grows stops
-
--- want of memory behind one more piece
-pub fed-memory : (first now : CheckView) (old mid new : Option (List ℕ)) (before after most room n : ℕ) (piece : List ℕ) → IsFed first now old mid most room
-    → Consumes mid new (take n piece) → n ≤ room → Stops fault.NoMemory old new before after most
-fed-memory first now old mid new before after most room n piece fed took few =
-    let count = fed.count in
-    stops-memory old new before after most (fed.bytes ++ take n piece) (Consumes-trans old mid new fed.bytes (take n piece) fed.took took)
-    (omega (arith, count, few, length-take n piece, length-append fed.bytes (take n piece)))

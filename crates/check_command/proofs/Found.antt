@@ -25,7 +25,8 @@ use Rattle.history_reports.specs.Reports.{Told, told, told_by, verdict_told, wit
 use Rattle.source_front.specs.Stops.{Stops}
 use Rattle.check_command.specs.declared.checked.Checked.{Checked}
 use Rattle.check_command.specs.declared.checked.Checked.TheVariants as checked
-use Rattle.check_command.specs.Checks.{IsBegun, IsBad, IsEnded, IsChecked, found_of}
+use Rattle.source_front.specs.Openings.{IsBad, IsGathered}
+use Rattle.check_command.specs.Checks.{IsBegun, IsEnded, IsChecked, found_of}
 
 -- ---- what is told of the end of a check
 

@@ -10,6 +10,7 @@ use Rattle.piece_check.specs.declared.end.PieceEnd.{PieceEnd}
 use Rattle.piece_check.specs.Pieces.{CheckView, HasRoom, StandsFor, end_of}
 use Rattle.history_reports.specs.declared.report.Judging.TheVariants.{Check}
 use Rattle.history_reports.specs.Reports.{Told, told_of, report_of}
+use Rattle.source_front.specs.Openings.{IsBad}
 use Rattle.check_command.specs.declared.begun.Begun.{Begun}
 use Rattle.check_command.specs.declared.begun.Begun.TheVariants as begun
 use Rattle.check_command.specs.declared.checked.Checked.{Checked}
@@ -27,14 +28,6 @@ pub record IsBegun (check : CheckView) (room : ℕ) (old new : Option (List ℕ)
   pub within : taken ≤ length bytes
   pub stands : StandsFor plan (lines + 1) (drop taken bytes) check
   pub fits : HasRoom check room
-
--- the input was read whole, and begins with no scenario
-pub record IsBad (line : ℕ) (why : Why) (old new : Option (List ℕ)) (limit : ℕ) : Type 0 where
-  pub bytes : List ℕ
-  pub took : Consumes old new bytes
-  pub few : length bytes ≤ limit
-  pub whole : IsAtEnd new
-  pub fault : front_taken bytes ≡ Err (line, why)
 
 abbrev pub Begins : Begun → Option (List ℕ) → Option (List ℕ) → ℕ → Type 0
 Begins (begun.Checks check room) old new limit = IsBegun check room old new limit

@@ -1,5 +1,5 @@
 -- Why an input is not read on, from how it was read before.
-use Rattle.std.proofs.Common.{◌≡◌, ◌≤◌, ◌+◌, ◌++◌, ℕ, List, [], length, take, Option, arith, length-append}
+use Rattle.std.proofs.Common.{◌≡◌, ◌≤◌, ◌+◌, ◌-◌, ◌++◌, ℕ, List, [], length, take, Option, refl, arith, length-append}
 use Rattle.std.specs.Io.KnownBytes.{Consumes, Keeps}
 use Rattle.std.proofs.KnownBytes.{Consumes-nil, Consumes-kept, Consumes-trans}
 use Rattle.std.proofs.lemmas.List.{length-take}
@@ -30,8 +30,42 @@ stops-over old new before now n room piece took within count = (take n piece, to
 
 -- a read failed
 pub stops-failed : (old new : Option (List ℕ)) (before now room : ℕ) → Keeps old new → Rose before now → Stops fault.Failed old new before now room
-stops-failed old new before now room kept rose = (rose, [], omega arith, Consumes-kept old old new [] (Consumes-nil old) kept)
+stops-failed old new before now room kept rose = (rose, ([], omega arith, Consumes-kept old old new [] (Consumes-nil old) kept))
 
 -- memory was wanted behind bytes that were read
 pub stops-memory : (old new : Option (List ℕ)) (before now most : ℕ) (bytes : List ℕ) → Consumes old new bytes → length bytes ≤ most → Stops fault.NoMemory old new before now most
 stops-memory old new before now most bytes took few = (bytes, few, took)
+
+-- ---- pieces that are read and not kept
+
+-- bytes were taken, and so many more may come
+pub record IsTaken (old new : Option (List ℕ)) (most room : ℕ) : Type 0 where
+  pub bytes : List ℕ
+  pub took : Consumes old new bytes
+  pub count : length bytes + room ≡ most
+
+pub taken-none : (old : Option (List ℕ)) (most : ℕ) → IsTaken old old most most
+taken-none old most = record { bytes = []; took = Consumes-nil old; count = omega arith }
+
+pub taken-more : (old mid new : Option (List ℕ)) (most room n : ℕ) (piece : List ℕ) → IsTaken old mid most room → Consumes mid new (take n piece) → n ≤ length piece → n ≤ room → IsTaken old new most (room - n)
+taken-more old mid new most room n piece t took within few =
+    let count = t.count in
+    record {
+      bytes = t.bytes ++ take n piece;
+      took = Consumes-trans old mid new t.bytes (take n piece) t.took took;
+      count = omega (arith, count, within, few, length-take n piece, length-append t.bytes (take n piece));
+    }
+
+pub taken-stops : (e : InputFault) (old mid new : Option (List ℕ)) (before between now most room : ℕ) → IsTaken old mid most room → before ≤ between → Stops e mid new between now room → Stops e old new before now most
+taken-stops e old mid new before between now most room t grows stops = stops-behind e old mid new before between now room most t.bytes t.took t.count grows stops
+
+-- want of memory behind one more piece
+pub taken-memory : (old mid new : Option (List ℕ)) (before now most room n : ℕ) (piece : List ℕ) → IsTaken old mid most room → Consumes mid new (take n piece) → n ≤ room → Stops fault.NoMemory old new before now most
+taken-memory old mid new before now most room n piece t took few =
+    let count = t.count in
+    stops-memory old new before now most (t.bytes ++ take n piece) (Consumes-trans old mid new t.bytes (take n piece) t.took took)
+    (omega (arith, count, few, length-take n piece, length-append t.bytes (take n piece)))
+
+-- bytes that are gathered
+pub gathered : (old new : Option (List ℕ)) (bytes : List ℕ) (limit room : ℕ) → Consumes old new bytes → length bytes + room ≡ limit → IsTaken old new limit room
+gathered old new bytes limit room took count = record { bytes = bytes; took = took; count = count }
