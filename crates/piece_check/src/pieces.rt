@@ -123,7 +123,7 @@ impl PieceCheck {
             replay,
         } = self;
         match feed.finish() {
-            Ok(_) => PieceEnd::Done(replay.finish(&scenario)),
+            Ok(_) => PieceEnd::Done(replay.verdict(&scenario)),
             Err((line, why)) => PieceEnd::Bad { line, why },
         }
     }

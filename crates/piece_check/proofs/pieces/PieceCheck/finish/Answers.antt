@@ -6,7 +6,7 @@ use Rattle.piece_check.proofs.pieces.PieceCheck.finish.Goals as goal
 pub returns-in-Ok : goal.returns-in-Ok
 returns-in-Ok c = λ s n text h.
     let stands = subst (StandsFor s n text) (sym c.self.view_is) h in
-    ends-done s n text _ c.finish-in-Ok.result _ stands (c.in-Ok.ensures.whole text) (c.in-Ok.ensures.exact text stands.feed) c.finish-in-Ok.ensures
+    ends-done s n text _ c.verdict.result _ stands (c.in-Ok.ensures.whole text) (c.in-Ok.ensures.exact text stands.feed) c.verdict.ensures.verdict
 
 pub returns : goal.returns
 returns c = λ s n text h.
