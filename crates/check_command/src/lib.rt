@@ -4,6 +4,8 @@
 mod begun;
 mod checked;
 mod source;
+#[cfg(test)]
+mod tests;
 
 pub use checked::Checked;
 pub use source::check_source;
