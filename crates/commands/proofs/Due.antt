@@ -8,7 +8,10 @@ use Rattle.edge.specs.Ends.{ReadWhole, IsOver, AppendsFront}
 use Rattle.kern_ids.specs.declared.entries.Entry.{Entry}
 use Rattle.report_tables.specs.Summary.{summary_text}
 use Rattle.history_reports.specs.declared.report.Report.TheVariants as report
+use Rattle.check_command.specs.declared.checked.Checked.{Checked}
+use Rattle.check_command.specs.Checks.{IsChecked, found_of}
 use Rattle.history_reports.specs.declared.report.Judging.{Judging}
+use Rattle.history_reports.specs.declared.report.Judging.TheVariants.{Check}
 use Rattle.history_reports.specs.Reports.{Told, report_of}
 use Rattle.history_reports.proofs.Statuses.{report-status}
 use Rattle.kernel_model.specs.Scenario.{Plan}
@@ -66,6 +69,13 @@ over_due r (Some left) new before now o =
 pub over_due-named : (r : Reading) (limit : ℕ) (old new : Option (List ℕ)) (before now : ℕ) → limit ≡ limit_of r → IsOver old new limit → IsReadDue r old new before now (7, too_long limit)
 over_due-named r limit old new before now l o =
     subst (λ (n : ℕ). IsReadDue r old new before now (7, too_long n)) (sym l) (over_due r old new before now (subst (λ (n : ℕ). IsOver old new n) l o))
+
+-- an input that was checked as it was read
+pub checked_due : (limit : ℕ) (old new : Option (List ℕ)) (before now : ℕ) (found : Checked) (due : Due) → limit ≡ limit_of (Judge Check) → IsChecked old new limit found → due ≡ reported (found_of found)
+    → IsReadDue (Judge Check) old new before now due
+checked_due limit old new before now found due l c d =
+    let few : length c.bytes ≤ limit_of (Judge Check) = subst (λ (n : ℕ). length c.bytes ≤ n) l c.few in
+    whole_due (Judge Check) old new before now c.bytes due few c.whole (d ∙ ap reported (sym c.told))
 
 -- what is due for a command is due for its words
 pub read_is_due : (words : List Word) (r : Reading) (old new : Option (List ℕ)) (before now : ℕ) (due : Due) → command_of words ≡ Some (Read r) → IsReadDue r old new before now due → IsDue words old new before now due

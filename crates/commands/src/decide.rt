@@ -3,7 +3,10 @@
 ghost use Rattle.std.specs.Prelude.{◌≡◌, ◌≤◌, ◌<◌, ◌^◌, false, length, IfOk};
 ghost use Rattle.std.specs.Io.KnownBytes.{Keeps};
 ghost use Rattle.scenario_text.specs.Grammar.{scenario_of};
+ghost use Rattle.check_command.specs.Checks.{found_of};
 ghost use Rattle.commands.specs.Commands.{asks_reading};
+ghost use Rattle.commands.specs.declared.command.Reading.TheVariants.{Judge};
+ghost use Rattle.history_reports.specs.declared.report.Judging.TheVariants.{Check};
 ghost use Rattle.history_reports.specs.Reports.{report_of};
 ghost use Rattle.commands.specs.Outcome.{answered, made_outcome, read_outcome, reported};
 ghost use Rattle.commands.specs.Answers.{due_of};
@@ -11,6 +14,7 @@ ghost use Rattle.commands.specs.Calls.{IsReadDue, IsDue};
 
 use crate::answer::Answer;
 use crate::command::{Command, Making, Reading, Rewriting, command_of};
+use check_command::{Checked, check_source};
 use edge::ends::Source;
 use edge::reading::{InputFault, read_to_limit};
 use edge::words::Words;
@@ -64,8 +68,8 @@ fn answer_input(alloc: Global, reading: Reading, input: &[u8]) -> Result<Answer,
     }
 }
 
-// What is answered on the input.
-fn answer_read<S: Source>(
+// What is answered on an input that is held whole.
+fn answer_whole<S: Source>(
     alloc: Global,
     reading: Reading,
     source: &mut S,
@@ -79,6 +83,45 @@ fn answer_read<S: Source>(
         Err(InputFault::Over) => Ok(Answer::TooLong(limit)),
         Err(InputFault::Failed) => Ok(Answer::ReadFault),
         Err(InputFault::NoMemory) => Err(NoMemory),
+    }
+}
+
+// What is answered on what was found of an input.
+fn answer_found(found: Checked) -> Answer
+    ensures { due_of result ≡ reported (found_of found) }
+{
+    match found {
+        Checked::Told(report) => Answer::Reported(report),
+        Checked::Bad { line, why } => Answer::BadLine(line, why),
+    }
+}
+
+// What is answered on an input that is checked as it is read.
+fn answer_checked<S: Source>(alloc: Global, source: &mut S) -> Result<Answer, NoMemory>
+    ensures due { IfOk result (λ a. IsReadDue (Judge Check) (S.left source.old) (S.left source.new) (S.fault_count source.old) (S.fault_count source.new) (due_of a)) }
+    ensures grows { S.fault_count source.old ≤ S.fault_count source.new }
+{
+    let limit = Reading::Judge(Judging::Check).limit();
+    match check_source(alloc, source, limit) {
+        Ok(found) => Ok(answer_found(found)),
+        Err(InputFault::Over) => Ok(Answer::TooLong(limit)),
+        Err(InputFault::Failed) => Ok(Answer::ReadFault),
+        Err(InputFault::NoMemory) => Err(NoMemory),
+    }
+}
+
+// What is answered on the input.
+fn answer_read<S: Source>(
+    alloc: Global,
+    reading: Reading,
+    source: &mut S,
+) -> Result<Answer, NoMemory>
+    ensures due { IfOk result (λ a. IsReadDue reading (S.left source.old) (S.left source.new) (S.fault_count source.old) (S.fault_count source.new) (due_of a)) }
+    ensures grows { S.fault_count source.old ≤ S.fault_count source.new }
+{
+    match reading {
+        Reading::Judge(Judging::Check) => answer_checked(alloc, source),
+        _ => answer_whole(alloc, reading, source),
     }
 }
 

@@ -64,9 +64,16 @@ abbrev pub why_told : ℕ → ℕ → Option (List ℕ) → Told
 why_told n many (Some text) = (0, text)
 why_told n many None = (8, no_entry n many)
 
+-- a verdict, with its line
+abbrev pub verdict_told : Verdict → Told
+verdict_told verdict.Legal = (0, verdict_text verdict.Legal)
+verdict_told (verdict.WrongReply place expected) = (6, verdict_text (verdict.WrongReply place expected))
+verdict_told (verdict.WrongCall place) = (6, verdict_text (verdict.WrongCall place))
+verdict_told (verdict.Missing thread) = (6, verdict_text (verdict.Missing thread))
+
 -- of a history that is legal and whole
 abbrev pub reported : Judging → Plan → List Entry → Told
-reported judging.Check s h = (0, verdict_text verdict.Legal)
+reported judging.Check s h = verdict_told verdict.Legal
 reported judging.Table s h = (0, table_text (facts_of s.boot (reverse h)))
 reported judging.Json s h = (0, compact_text (facts_data (facts_of s.boot (reverse h))) ++ 10 ∷ [])
 reported (judging.Why n) s h = why_told n (length h) (why_text s.boot h n)
@@ -74,9 +81,7 @@ reported (judging.Why n) s h = why_told n (length h) (why_text s.boot h n)
 -- by the verdict: where it is not Legal, the verdict alone is told
 abbrev pub told_by : Judging → Plan → List Entry → Verdict → Told
 told_by j s h verdict.Legal = reported j s h
-told_by j s h (verdict.WrongReply place expected) = (6, verdict_text (verdict.WrongReply place expected))
-told_by j s h (verdict.WrongCall place) = (6, verdict_text (verdict.WrongCall place))
-told_by j s h (verdict.Missing thread) = (6, verdict_text (verdict.Missing thread))
+told_by j s h v = verdict_told v
 
 abbrev pub told : Judging → Result (Plan × List Entry) (ℕ × Why) → Result Told (ℕ × Why)
 told j (Ok r) = Ok (told_by j r.0 r.1 (verdict_of r.0 r.1))

@@ -6,4 +6,4 @@ pub mod law;
 mod lines;
 pub mod report;
 
-pub use report::{Judging, Report, tell};
+pub use report::{Judging, Report, tell, verdict_report};

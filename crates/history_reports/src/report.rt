@@ -3,7 +3,7 @@
 ghost use Rattle.std.specs.Prelude.{◌≡◌, ◌<◌, ◌≤◌, ◌^◌, length, reverse, IfOk};
 ghost use Rattle.report_tables.specs.Facts.{facts_of};
 ghost use Rattle.replay_check.specs.Verdicts.{verdict_of};
-ghost use Rattle.history_reports.specs.Reports.{reported, told_by, told_of, report_of, ReportGives};
+ghost use Rattle.history_reports.specs.Reports.{verdict_told, reported, told_by, told_of, report_of, ReportGives};
 
 use crate::input::read_input;
 use crate::lines::{legal_line, missing_line, no_entry_line, wrong_call_line, wrong_reply_line};
@@ -71,6 +71,30 @@ fn text_of(alloc: Global, line: &[u8]) -> Result<Vec<u8>, NoMemory>
     }
 }
 
+/// The line on a verdict: the whole report where a check is asked for.
+pub fn verdict_report(alloc: Global, verdict: &Verdict) -> Result<Report, NoMemory>
+    ensures { IfOk result (λ r. told_of r ≡ verdict_told verdict.now) }
+{
+    match verdict {
+        Verdict::Legal => {
+            let text = text_of(alloc, legal_line().as_slice())?;
+            Ok(Report::Legal(text))
+        }
+        Verdict::WrongReply { place, expected } => {
+            let text = text_of(alloc, wrong_reply_line(*place, expected).as_slice())?;
+            Ok(Report::Wrong(text))
+        }
+        Verdict::WrongCall { place } => {
+            let text = text_of(alloc, wrong_call_line(*place).as_slice())?;
+            Ok(Report::Wrong(text))
+        }
+        Verdict::Missing { thread } => {
+            let text = text_of(alloc, missing_line(*thread).as_slice())?;
+            Ok(Report::Wrong(text))
+        }
+    }
+}
+
 fn report_why(
     alloc: Global,
     scenario: &Scenario,
@@ -99,10 +123,7 @@ fn report_whole(
     ensures { IfOk result (λ r. told_of r ≡ reported judging scenario.now kernel.now.history) }
 {
     match judging {
-        Judging::Check => {
-            let text = text_of(alloc, legal_line().as_slice())?;
-            Ok(Report::Legal(text))
-        }
+        Judging::Check => verdict_report(alloc, &Verdict::Legal),
         Judging::Table => {
             let facts = Facts::of_kernel(alloc, scenario.boot(), kernel)?;
             let text = table_text(alloc, &facts)?;
@@ -130,18 +151,7 @@ fn report_on(
     let replay = replay(alloc, scenario, history)?;
     match replay.verdict(scenario) {
         Verdict::Legal => report_whole(alloc, judging, scenario, replay.kernel().kernel()),
-        Verdict::WrongReply { place, expected } => {
-            let text = text_of(alloc, wrong_reply_line(place, &expected).as_slice())?;
-            Ok(Report::Wrong(text))
-        }
-        Verdict::WrongCall { place } => {
-            let text = text_of(alloc, wrong_call_line(place).as_slice())?;
-            Ok(Report::Wrong(text))
-        }
-        Verdict::Missing { thread } => {
-            let text = text_of(alloc, missing_line(thread).as_slice())?;
-            Ok(Report::Wrong(text))
-        }
+        verdict => verdict_report(alloc, &verdict),
     }
 }
 

@@ -1,10 +1,11 @@
 -- A text begins with a scenario exactly where its first bytes are that scenario's text.
-use Rattle.std.proofs.Common.{◌≡◌, ℕ, ◌+◌, ◌-◌, ◌≤◌, false, eqb, List, [], ◌∷◌, ◌++◌, length, map, take, Result, Ok, refl, sym, ap, ◌∙◌, arith, subst, append_assoc, inl, inr}
+use Rattle.std.proofs.Common.{◌≡◌, ℕ, ◌+◌, ◌-◌, ◌≤◌, false, eqb, List, [], ◌∷◌, ◌++◌, length, map, take, Result, Ok, Err, refl, sym, ap, ◌∙◌, arith, subst, append_assoc, inl, inr}
 use Rattle.std.specs.List.{AllByRecursion, join_with_byte}
 use Rattle.std.proofs.Math.Seq.{take-append_seam}
 use Rattle.std.proofs.lemmas.Bool.{ne_eqb}
 use Rattle.std.proofs.lemmas.List.{length-append}
 use Rattle.std.proofs.lemmas.List.Splits.{join_with_byte-slice_split}
+use Rattle.kern_ids.specs.declared.faults.Why.{Why}
 use Rattle.kern_ids.specs.declared.faults.ReadFault.{ReadFault}
 use Rattle.kernel_model.specs.Scenario.{Plan}
 use Rattle.line_text.specs.Cut.{Word, lines_of, words_of, line_of, text_of}
@@ -78,15 +79,38 @@ joined_line : (line : List ℕ) (parts : List (List ℕ)) → (parts ≡ [] → 
 joined_line line [] some = absurd (some refl)
 joined_line line (part ∷ parts) some = refl
 
-some_lines : (ls : List (List Word)) (rest : List ℕ) → map line_of ls ++ lines_of rest ≡ [] → ⊥
-some_lines [] rest e = some_part (λ b. eqb b 10) rest e
-some_lines (l ∷ ls) rest e = absurd cc
+some_parts : (ls : List (List Word)) (parts : List (List ℕ)) → (parts ≡ [] → ⊥) → map line_of ls ++ parts ≡ [] → ⊥
+some_parts [] parts some e = some e
+some_parts (l ∷ ls) parts some e = absurd cc
+
+joined_before : (ls : List (List Word)) (parts : List (List ℕ)) → (parts ≡ [] → ⊥) → join_with_byte 10 (map line_of ls ++ parts) ≡ text_of ls ++ join_with_byte 10 parts
+joined_before [] parts some = refl
+joined_before (l ∷ ls) parts some =
+    joined_line (line_of l) (map line_of ls ++ parts) (some_parts ls parts some) ∙ ap (λ (x : List ℕ). line_of l ++ 10 ∷ x) (joined_before ls parts some)
+    ∙ sym (append_assoc (line_of l ++ 10 ∷ []) (text_of ls) (join_with_byte 10 parts) ∙ append_assoc (line_of l) (10 ∷ []) (text_of ls ++ join_with_byte 10 parts))
 
 joined : (ls : List (List Word)) (rest : List ℕ) → join_with_byte 10 (map line_of ls ++ lines_of rest) ≡ text_of ls ++ rest
-joined [] rest = join_with_byte-slice_split 10 rest
-joined (l ∷ ls) rest =
-    joined_line (line_of l) (map line_of ls ++ lines_of rest) (some_lines ls rest) ∙ ap (λ (x : List ℕ). line_of l ++ 10 ∷ x) (joined ls rest)
-    ∙ sym (append_assoc (line_of l ++ 10 ∷ []) (text_of ls) rest ∙ append_assoc (line_of l) (10 ∷ []) (text_of ls ++ rest))
+joined ls rest = joined_before ls (lines_of rest) (some_part (λ b. eqb b 10) rest) ∙ ap (λ (x : List ℕ). text_of ls ++ x) (join_with_byte-slice_split 10 rest)
+
+-- something is behind the end line: at least no bytes that no line feed ends
+some_ended : (f : Front) (n : ℕ) (line : List ℕ) (lines : List (List ℕ)) (r : Read) (t : Plan) → f ≡ reading place.Ended t → front_from f n (line ∷ lines) ≡ Ok r → r.behind ≡ [] → ⊥
+some_ended f n line lines r t ended e none =
+    let same : behind t (line ∷ lines) n ≡ r = read_is _ r (sym (front-ended t n line lines) ∙ ap (λ (g : Front). front_from g n (line ∷ lines)) (sym ended) ∙ e) in
+    let nothing : line ∷ lines ≡ [] = ap (λ (x : Read). x.behind) same ∙ none in
+    absurd cc
+
+some_behind : (f : Front) (n : ℕ) (lines : List (List ℕ)) (r : Read) → front_from f n lines ≡ Ok r → r.behind ≡ [] → ⊥
+some_behind f n [] r e none = absurd (none_read f n r e)
+some_behind f n (line ∷ []) r e none = elim (open_or f) [
+  | inl o ↦ absurd (not-ok _ r (sym (front-last f n line o) ∙ e))
+  | inr d ↦ some_ended f n line [] r d.0 d.1 e none
+]
+some_behind f n (line ∷ next ∷ lines) r e none = elim (open_or f) [
+  | inl o ↦
+      let g = go_takes (step f (words_of line)) n (next ∷ lines) r (sym (front-next f n line next lines o) ∙ e) in
+      some_behind g.0 (n + 1) (next ∷ lines) r g.2 none
+  | inr d ↦ some_ended f n line (next ∷ lines) r d.0 d.1 e none
+]
 
 -- ---- both, of scenarios
 
@@ -123,14 +147,39 @@ taken-written text rest s n e =
     let w = taken-within text rest s n e in
     ap (λ (k : ℕ). take k text) w.2 ∙ ap (take (length (scenario_text s))) t.0 ∙ take-append_seam (scenario_text s) rest
 
-pub taken-again : (r : Result Taken ReadFault) (text rest : List ℕ) (s : Plan) → FrontGives r (front_taken text) → HasText s → text ≡ scenario_text s ++ rest → FrontGives r (Ok (s, length (scenario_text s), length (scenario_lines s)))
-taken-again r text rest s g h e =
+taken_text : (s : Plan) (rest : List ℕ) → HasText s → front_taken (scenario_text s ++ rest) ≡ Ok (s, length (scenario_text s), length (scenario_lines s))
+taken_text s rest h =
     let n = length (scenario_lines s) + 1 in
-    let front : front_of text ≡ Ok (behind s (lines_of rest) n) = ap front_of e ∙ front-again s rest h in
-    let w = taken-within text rest s n front in
-    let said : front_taken text ≡ Ok (s, length (scenario_text s), length (scenario_lines s)) = taken-is text rest s n front ∙ rw (w.2, w.3) refl in
-    subst (FrontGives r) said g
+    let front = front-again s rest h in
+    let w = taken-within (scenario_text s ++ rest) rest s n front in
+    taken-is (scenario_text s ++ rest) rest s n front ∙ rw (w.2, w.3) refl
+
+pub taken-again : (r : Result Taken ReadFault) (text rest : List ℕ) (s : Plan) → FrontGives r (front_taken text) → HasText s → text ≡ scenario_text s ++ rest → FrontGives r (Ok (s, length (scenario_text s), length (scenario_lines s)))
+taken-again r text rest s g h e = subst (FrontGives r) (ap front_taken e ∙ taken_text s rest h) g
 
 pub taken-fails : (fault : ReadFault) (text : List ℕ) → ReadFails fault (front_of text) → ReadFails fault (front_taken text)
 taken-fails faults.NoMemory text h = tt
 taken-fails (faults.Bad n why) text h = ap (taken_of text) h
+
+-- ---- more bytes behind a front
+
+taken_read : (text : List ℕ) (said : Result Read (ℕ × Why)) (t : Taken) → taken_of text said ≡ Ok t → (r : Read) × (said ≡ Ok r)
+taken_read text (Ok r) t e = (r, refl)
+taken_read text (Err x) t e = absurd cc
+
+front_begins : (text : List ℕ) (r : Read) → front_of text ≡ Ok r → (text ≡ scenario_text r.plan ++ join_with_byte 10 r.behind) × HasText r.plan
+front_begins text r e =
+    let t = led start 1 (lines_of text) r e in
+    let told = run-lines r.plan t.0 t.2 in
+    let whole : text ≡ text_of t.0 ++ join_with_byte 10 r.behind =
+    sym (join_with_byte-slice_split 10 text) ∙ ap (join_with_byte 10) t.1 ∙ joined_before t.0 r.behind (some_behind start 1 (lines_of text) r e) in
+    (whole ∙ ap (λ (ls : List (List Word)). text_of ls ++ join_with_byte 10 r.behind) told.0, told.1)
+
+pub front-stays : (text more : List ℕ) (t : Taken) → front_taken text ≡ Ok t → front_taken (text ++ more) ≡ Ok t
+front-stays text more t e =
+    let r = taken_read text (front_of text) t e in
+    let s = r.0.plan in
+    let rest = join_with_byte 10 r.0.behind in
+    let b = front_begins text r.0 r.1 in
+    let longer : text ++ more ≡ scenario_text s ++ (rest ++ more) = ap (λ (x : List ℕ). x ++ more) b.0 ∙ append_assoc (scenario_text s) rest more in
+    ap front_taken longer ∙ taken_text s (rest ++ more) b.1 ∙ sym (ap front_taken b.0 ∙ taken_text s rest b.1) ∙ e

@@ -13,4 +13,5 @@ pub mod Clean
 pub mod RoundTrip
 pub mod TypeLaws
 pub mod FrontLaws
+pub mod FaultStays
 pub mod Within

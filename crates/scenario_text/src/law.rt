@@ -1,10 +1,13 @@
 //! Laws of a scenario's text and of its reading.
 
 ghost use Rattle.std.specs.List.{AllByRecursion};
-ghost use Rattle.std.specs.Prelude.{◌≡◌, ◌≤◌, ◌<◌, ◌^◌, ℕ, List, length, All, IsTrue, Ok};
+ghost use Rattle.std.specs.Prelude.{◌≡◌, ◌≢◌, ◌≤◌, ◌<◌, ◌++◌, ◌^◌, ℕ, List, length, All, IsTrue, Ok, Err};
+ghost use Rattle.kern_ids.specs.declared.faults.Why.TheVariants.{NoEnd};
+ghost use Rattle.kern_ids.specs.declared.faults.Why.{Why};
 ghost use Rattle.kernel_model.specs.Histories.{names_fit};
 ghost use Rattle.kernel_model.specs.Scenario.{Plan, two};
 ghost use Rattle.line_text.specs.Calls.{HasLine};
+ghost use Rattle.scenario_text.specs.Fronts.{Taken, front_taken};
 ghost use Rattle.scenario_text.specs.Grammar.{scenario_of};
 ghost use Rattle.scenario_text.specs.Text.{scenario_text, HasText};
 
@@ -90,4 +93,11 @@ pub fn reading_undoes_writing()
     ensures valid { (bytes : List ℕ) (s : Plan) → scenario_of bytes ≡ Ok s → HasText s }
     ensures again { (s : Plan) → HasText s → scenario_of (scenario_text s) ≡ Ok s }
     ensures second { (s : Plan) → HasText s → HasText (two s) }
+{}
+
+/// What is read at the front of some bytes is read there too where more bytes stand behind them, and a fault of an
+/// ended line is their fault too.
+pub fn front_stays()
+    ensures read { (bytes more : List ℕ) (front : Taken) → front_taken bytes ≡ Ok front → front_taken (bytes ++ more) ≡ Ok front }
+    ensures fault { (bytes more : List ℕ) (line : ℕ) (why : Why) → why ≢ NoEnd → front_taken bytes ≡ Err (line, why) → front_taken (bytes ++ more) ≡ Err (line, why) }
 {}

@@ -5,7 +5,7 @@ use Rattle.commands.specs.Outcome.{read_outcome}
 use Rattle.commands.specs.Answers.{due_of}
 use Rattle.commands.specs.Calls.{IsReadDue}
 use Rattle.commands.proofs.Due.{whole_due, over_due-named}
-use Rattle.commands.proofs.decide.answer_read.Goals as goal
+use Rattle.commands.proofs.decide.answer_whole.Goals as goal
 
 pub returns-in-Ok-clause-due : goal.returns-in-Ok-clause-due
 returns-in-Ok-clause-due g c =

@@ -1,0 +1,54 @@
+-- What a check of an input comes to.
+use Rattle.std.specs.Prelude.{◌≡◌, ◌≤◌, ◌+◌, ◌++◌, ℕ, List, length, drop, Option, Result, Ok, Err}
+use Rattle.std.specs.Io.KnownBytes.{Consumes, IsAtEnd}
+use Rattle.edge.specs.Ends.{ReadWhole}
+use Rattle.kern_ids.specs.declared.faults.Why.{Why}
+use Rattle.kernel_model.specs.Scenario.{Plan}
+use Rattle.history_reading.specs.Histories.{history_of}
+use Rattle.scenario_text.specs.Fronts.{front_taken}
+use Rattle.piece_check.specs.declared.end.PieceEnd.{PieceEnd}
+use Rattle.piece_check.specs.Pieces.{CheckView, HasRoom, StandsFor, end_of}
+use Rattle.history_reports.specs.declared.report.Judging.TheVariants.{Check}
+use Rattle.history_reports.specs.Reports.{Told, told_of, report_of}
+use Rattle.source_front.specs.Openings.{IsBad}
+use Rattle.check_command.specs.declared.begun.Begun.{Begun}
+use Rattle.check_command.specs.declared.begun.Begun.TheVariants as begun
+use Rattle.check_command.specs.declared.checked.Checked.{Checked}
+use Rattle.check_command.specs.declared.checked.Checked.TheVariants as checked
+
+-- the bytes that were read begin with a scenario, and the check stands for those behind it
+pub record IsBegun (check : CheckView) (room : ℕ) (old new : Option (List ℕ)) (limit : ℕ) : Type 0 where
+  pub bytes : List ℕ
+  pub took : Consumes old new bytes
+  pub count : length bytes + room ≡ limit
+  pub plan : Plan
+  pub taken : ℕ
+  pub lines : ℕ
+  pub front : front_taken bytes ≡ Ok (plan, taken, lines)
+  pub within : taken ≤ length bytes
+  pub stands : StandsFor plan (lines + 1) (drop taken bytes) check
+  pub fits : HasRoom check room
+
+abbrev pub Begins : Begun → Option (List ℕ) → Option (List ℕ) → ℕ → Type 0
+Begins (begun.Checks check room) old new limit = IsBegun check room old new limit
+Begins (begun.Bad line why) old new limit = IsBad line why old new limit
+
+-- the rest of an input was read whole, and the check of what the check stood for and the rest ends so
+pub record IsEnded (check : CheckView) (found : PieceEnd) (old new : Option (List ℕ)) (most : ℕ) : Type 0 where
+  pub rest : List ℕ
+  pub took : Consumes old new rest
+  pub few : length rest ≤ most
+  pub whole : IsAtEnd new
+  pub ends : (s : Plan) (n : ℕ) (text : List ℕ) → StandsFor s n text check → found ≡ end_of s (history_of n (text ++ rest))
+
+-- what is told, or the first fault
+abbrev pub found_of : Checked → Result Told (ℕ × Why)
+found_of (checked.Told report) = Ok (told_of report)
+found_of (checked.Bad line why) = Err (line, why)
+
+-- an input within its limit was read whole, and this is what is told of it
+pub record IsChecked (old new : Option (List ℕ)) (limit : ℕ) (found : Checked) : Type 0 where
+  pub bytes : List ℕ
+  pub few : length bytes ≤ limit
+  pub whole : ReadWhole old new bytes
+  pub told : report_of Check bytes ≡ found_of found

@@ -1,0 +1,88 @@
+//! An input that is checked as it is read.
+
+ghost use Rattle.std.specs.Prelude.{◌≡◌, ◌≤◌, ◌<◌, ◌+◌, ◌^◌, ℕ, List, Result, length, IfOk, IfErr, IsErrOf};
+ghost use Rattle.edge.specs.Ends.{Rose, IsOver, TakesFront};
+ghost use Rattle.kern_ids.specs.declared.entries.Entry.{Entry};
+ghost use Rattle.kernel_model.specs.Scenario.{Plan};
+ghost use Rattle.history_feed.specs.Left.{Fault};
+ghost use Rattle.history_reports.specs.Reports.{told, with_plan};
+ghost use Rattle.history_reports.specs.declared.report.Judging.TheVariants.{Check};
+ghost use Rattle.piece_check.specs.Pieces.{HasRoom, end_of};
+ghost use Rattle.source_front.specs.Stops.{Stops};
+ghost use Rattle.check_command.specs.Checks.{IsChecked, IsEnded, found_of};
+
+use crate::begun::{Begun, begin};
+use crate::checked::Checked;
+use edge::ends::Source;
+use edge::reading::InputFault;
+use history_reports::verdict_report;
+use kern_ids::entries::NoMemory;
+use piece_check::{PieceCheck, PieceEnd};
+use source_front::{next_piece, piece_room};
+use std::alloc::Global;
+
+// Feeds the rest of an input to a check, a piece at a time. The rest may have `most` bytes.
+fn feed_rest<S: Source>(
+    source: &mut S,
+    piece: &mut [u8],
+    begun: PieceCheck,
+    most: usize,
+) -> Result<PieceEnd, InputFault>
+    requires some { 0 < length piece.old }
+    requires few { most < 2 ^ 31 }
+    requires room { HasRoom begun most }
+    ensures ended { IfOk result (λ end. IsEnded begun end (S.left source.old) (S.left source.new) most) }
+    ensures stops { IfErr result (λ e. Stops e (S.left source.old) (S.left source.new) (S.fault_count source.old) (S.fault_count source.new) most) }
+    ensures grows { S.fault_count source.old ≤ S.fault_count source.new }
+{
+    let mut check = begun;
+    let mut room = most;
+    'pieces: loop {
+        let n = next_piece(source, piece, room)?;
+        if n == 0 {
+            return Ok(check.finish());
+        }
+        check = check.feed(&piece[..n])?;
+        room -= n;
+    }
+}
+
+// What is told of an end of a check.
+fn told_of_end(alloc: Global, end: PieceEnd) -> Result<Checked, NoMemory>
+    ensures { IfOk result (λ found. (s : Plan) (h : Result (List Entry) Fault) → end ≡ end_of s h → told Check (with_plan s h) ≡ found_of found) }
+{
+    match end {
+        PieceEnd::Done(verdict) => {
+            let report = verdict_report(alloc, &verdict)?;
+            Ok(Checked::Told(report))
+        }
+        PieceEnd::Bad { line, why } => Ok(Checked::Bad { line, why }),
+    }
+}
+
+/// Reads an input of at most `limit` bytes to its end, the first fault of the source, or the first byte past the limit,
+/// whatever the bytes are: what is told of the scenario and the history that they are, or their first fault. It holds one
+/// piece of the text, and until the scenario is read what was read so far.
+pub fn check_source<S: Source>(
+    alloc: Global,
+    source: &mut S,
+    limit: usize,
+) -> Result<Checked, InputFault>
+    requires { limit < 2 ^ 31 }
+    ensures checked { IfOk result (λ found. IsChecked (S.left source.old) (S.left source.new) limit found) }
+    ensures over { IsErrOf result InputFault.Over → IsOver (S.left source.old) (S.left source.new) limit }
+    ensures cause { IsErrOf result InputFault.Failed → Rose (S.fault_count source.old) (S.fault_count source.new) }
+
+    // In every case.
+    ensures taken { TakesFront (S.left source.old) (S.left source.new) (limit + 1) }
+    ensures grows { S.fault_count source.old ≤ S.fault_count source.new }
+{
+    let mut piece = piece_room(alloc)?;
+    match begin(alloc, source, &mut piece, limit)? {
+        Begun::Checks { check, room } => {
+            let end = feed_rest(source, &mut piece, check, room)?;
+            Ok(told_of_end(alloc, end)?)
+        }
+        Begun::Bad { line, why } => Ok(Checked::Bad { line, why }),
+    }
+}

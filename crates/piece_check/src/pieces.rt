@@ -1,0 +1,130 @@
+//! A history that is read and replayed in pieces.
+
+ghost use Rattle.std.specs.Prelude.{◌≡◌, ◌<◌, ◌≤◌, ◌+◌, ◌++◌, ◌^◌, ℕ, List, [], length, take, IfOk, OnOk};
+ghost use Rattle.kernel_model.specs.Scenario.{Plan};
+ghost use Rattle.history_reading.specs.Histories.{history_of};
+ghost use Rattle.piece_check.specs.Pieces.{HasRoom, Stands, StandsFor, end_of, parts};
+
+use crate::end::PieceEnd;
+use history_feed::{Fed, HistoryFeed};
+use kern_ids::entries::NoMemory;
+use kernel_model::scenario::Scenario;
+use replay_check::Replay;
+use std::alloc::Global;
+use std::marker::Model;
+
+/// What the bytes of a history of a scenario have come to so far.
+#[derive(Drop)]
+pub struct PieceCheck {
+    scenario: Scenario,
+    feed: HistoryFeed,
+    replay: Replay,
+}
+
+impl Model for PieceCheck {
+    ghost use Rattle.piece_check.specs.Pieces.{CheckView, Stands, parts};
+
+    ghost Value = { CheckView };
+
+    ghost view = { λ c. parts c.scenario c.feed c.replay };
+
+    ghost invariant = { λ c. Stands (parts c.scenario c.feed c.replay) };
+}
+
+// Takes bytes of the piece up to the end of one line, and replays the entry that they end: how many it took.
+fn take_some(
+    scenario: &Scenario,
+    feed: &mut HistoryFeed,
+    replay: &mut Replay,
+    piece: &[u8],
+) -> Result<usize, NoMemory>
+    requires stands { Stands (parts scenario.now feed.old replay.old) }
+    requires room { HasRoom (parts scenario.now feed.old replay.old) (length piece.now) }
+    ensures within { IfOk result (λ taken. taken ≤ length piece.now) }
+    ensures some { IfOk result (λ taken. 0 < length piece.now → 0 < taken) }
+    ensures room { IfOk result (λ taken. (more : ℕ) → HasRoom (parts scenario.now feed.old replay.old) (taken + more) → HasRoom (parts scenario.now feed.new replay.new) more) }
+    ensures stands { IfOk result (λ taken. (s : Plan) (n : ℕ) (text : List ℕ) → StandsFor s n text (parts scenario.now feed.old replay.old) → StandsFor s n (text ++ take taken piece.now) (parts scenario.now feed.new replay.new)) }
+{
+    let Fed { taken, entry } = feed.feed(piece);
+    match entry {
+        Some(entry) => {
+            replay.feed(scenario, &entry)?;
+            Ok(taken)
+        }
+        None => Ok(taken),
+    }
+}
+
+// Takes the piece whole, and replays the entries that it ends.
+fn take_all(
+    scenario: &Scenario,
+    feed: &mut HistoryFeed,
+    replay: &mut Replay,
+    piece: &[u8],
+) -> Result<(), NoMemory>
+    requires stands { Stands (parts scenario.now feed.old replay.old) }
+    requires room { HasRoom (parts scenario.now feed.old replay.old) (length piece.now) }
+    ensures room { OnOk result ((more : ℕ) → HasRoom (parts scenario.now feed.old replay.old) (length piece.now + more) → HasRoom (parts scenario.now feed.new replay.new) more) }
+    ensures stands { OnOk result ((s : Plan) (n : ℕ) (text : List ℕ) → StandsFor s n text (parts scenario.now feed.old replay.old) → StandsFor s n (text ++ piece.now) (parts scenario.now feed.new replay.new)) }
+{
+    let mut at = 0;
+    'bytes: while at < piece.len() {
+        let taken = take_some(scenario, feed, replay, &piece[at..])?;
+        at += taken;
+    }
+    Ok(())
+}
+
+impl PieceCheck {
+    /// Of no bytes; the first line will have the number `first_line`, at most 2^31.
+    pub fn new(alloc: Global, scenario: Scenario, first_line: u32) -> Result<PieceCheck, NoMemory>
+        requires { first_line ≤ 2 ^ 31 }
+        ensures stands { IfOk result (StandsFor scenario first_line []) }
+        // It has room for all bytes of a text of 2 GB.
+        ensures room { IfOk result (λ check. (more : ℕ) → more < 2 ^ 31 → HasRoom check more) }
+    {
+        let replay = Replay::new(alloc, &scenario)?;
+        let feed = HistoryFeed::new(first_line);
+        Ok(PieceCheck {
+            scenario,
+            feed,
+            replay,
+        })
+    }
+
+    /// Takes a piece more. Without memory the check is given up.
+    pub fn feed(self, piece: &[u8]) -> Result<PieceCheck, NoMemory>
+        requires { HasRoom self (length piece.now) }
+        // Whatever scenario and bytes it stood for, it stands for that scenario, and those bytes with the piece behind them.
+        ensures stands { IfOk result (λ check. (s : Plan) (n : ℕ) (text : List ℕ) → StandsFor s n text self → StandsFor s n (text ++ piece.now) check) }
+        // Where there was room for more bytes, there still is.
+        ensures room { IfOk result (λ check. (more : ℕ) → HasRoom self (length piece.now + more) → HasRoom check more) }
+    {
+        let PieceCheck {
+            scenario,
+            mut feed,
+            mut replay,
+        } = self;
+        take_all(&scenario, &mut feed, &mut replay, piece)?;
+        Ok(PieceCheck {
+            scenario,
+            feed,
+            replay,
+        })
+    }
+
+    /// The verdict on the history that the bytes are, or the line of their first fault and why it is refused.
+    pub fn finish(self) -> PieceEnd
+        ensures { (s : Plan) (n : ℕ) (text : List ℕ) → StandsFor s n text self → result ≡ end_of s (history_of n text) }
+    {
+        let PieceCheck {
+            scenario,
+            feed,
+            replay,
+        } = self;
+        match feed.finish() {
+            Ok(_) => PieceEnd::Done(replay.verdict(&scenario)),
+            Err((line, why)) => PieceEnd::Bad { line, why },
+        }
+    }
+}
