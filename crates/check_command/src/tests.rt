@@ -51,7 +51,12 @@ fn is_told(
 }
 
 // The text has this fault, whatever the pieces.
-fn is_bad(rt: &(impl Abort + AllocGlobal), text: &str, number: u32, cause: Why) -> Result<(), Fail> {
+fn is_bad(
+    rt: &(impl Abort + AllocGlobal),
+    text: &str,
+    number: u32,
+    cause: Why,
+) -> Result<(), Fail> {
     for piece in [1, 2, 7, 5000] {
         match found(rt, text, piece, &[], 5000)? {
             Ok(Checked::Bad { line, why }) => {

@@ -23,7 +23,10 @@ pub enum Opening {
         lines: u32,
     },
     /// No scenario: the line of the first fault, and why it is refused.
-    Bad { line: u32, why: Why },
+    Bad {
+        line: u32,
+        why: Why,
+    },
 }
 
 // What the bytes begin with.
