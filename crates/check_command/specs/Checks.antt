@@ -5,16 +5,14 @@ use Rattle.edge.specs.Ends.{ReadWhole}
 use Rattle.kern_ids.specs.declared.faults.Why.{Why}
 use Rattle.kernel_model.specs.Scenario.{Plan}
 use Rattle.history_reading.specs.Histories.{history_of}
-use Rattle.scenario_text.specs.Fronts.{front_taken}
+use Rattle.scenario_text.specs.Fronts.{Taken, front_taken}
+use Rattle.history_feed.specs.Left.{Fault}
 use Rattle.piece_check.specs.declared.end.PieceEnd.{PieceEnd}
+use Rattle.piece_check.specs.declared.end.PieceEnd.TheVariants.{Bad}
 use Rattle.piece_check.specs.Pieces.{CheckView, HasRoom, StandsFor, end_of}
-use Rattle.history_reports.specs.declared.report.Judging.TheVariants.{Check}
-use Rattle.history_reports.specs.Reports.{Told, told_of, report_of}
 use Rattle.source_front.specs.Openings.{IsBad}
 use Rattle.check_command.specs.declared.begun.Begun.{Begun}
 use Rattle.check_command.specs.declared.begun.Begun.TheVariants as begun
-use Rattle.check_command.specs.declared.checked.Checked.{Checked}
-use Rattle.check_command.specs.declared.checked.Checked.TheVariants as checked
 
 -- the bytes that were read begin with a scenario, and the check stands for those behind it
 pub record IsBegun (check : CheckView) (room : ℕ) (old new : Option (List ℕ)) (limit : ℕ) : Type 0 where
@@ -41,14 +39,18 @@ pub record IsEnded (check : CheckView) (found : PieceEnd) (old new : Option (Lis
   pub whole : IsAtEnd new
   pub ends : (s : Plan) (n : ℕ) (text : List ℕ) → StandsFor s n text check → found ≡ end_of s (history_of n (text ++ rest))
 
--- what is told, or the first fault
-abbrev pub found_of : Checked → Result Told (ℕ × Why)
-found_of (checked.Told report) = Ok (told_of report)
-found_of (checked.Bad line why) = Err (line, why)
+-- how the check of an input ends, by what it begins with: what stands behind a scenario is read as its history, from the next line on
+abbrev pub ended_by : List ℕ → Result Taken Fault → PieceEnd
+ended_by x (Ok t) = end_of t.0 (history_of (t.2 + 1) (drop t.1 x))
+ended_by x (Err e) = Bad e.0 e.1
 
--- an input within its limit was read whole, and this is what is told of it
-pub record IsChecked (old new : Option (List ℕ)) (limit : ℕ) (found : Checked) : Type 0 where
+-- the verdict on an input, or its first fault
+abbrev pub check_of : List ℕ → PieceEnd
+check_of x = ended_by x (front_taken x)
+
+-- an input within its limit was read whole, and its check ended so
+pub record IsChecked (old new : Option (List ℕ)) (limit : ℕ) (found : PieceEnd) : Type 0 where
   pub bytes : List ℕ
   pub few : length bytes ≤ limit
   pub whole : ReadWhole old new bytes
-  pub told : report_of Check bytes ≡ found_of found
+  pub ends : found ≡ check_of bytes

@@ -2,10 +2,8 @@
 #![tactic(auto)]
 
 mod begun;
-mod checked;
 mod source;
 #[cfg(test)]
 mod tests;
 
-pub use checked::Checked;
 pub use source::check_source;

@@ -1,22 +1,14 @@
 //! An input that is checked as it is read.
 
-ghost use Rattle.std.specs.Prelude.{◌≡◌, ◌≤◌, ◌<◌, ◌+◌, ◌^◌, ℕ, List, Result, length, IfOk, IfErr, IsErrOf};
+ghost use Rattle.std.specs.Prelude.{◌≡◌, ◌≤◌, ◌<◌, ◌+◌, ◌^◌, length, IfOk, IfErr, IsErrOf};
 ghost use Rattle.edge.specs.Ends.{Rose, IsOver, TakesFront};
-ghost use Rattle.kern_ids.specs.declared.entries.Entry.{Entry};
-ghost use Rattle.kernel_model.specs.Scenario.{Plan};
-ghost use Rattle.history_feed.specs.Left.{Fault};
-ghost use Rattle.history_reports.specs.Reports.{told, with_plan};
-ghost use Rattle.history_reports.specs.declared.report.Judging.TheVariants.{Check};
-ghost use Rattle.piece_check.specs.Pieces.{HasRoom, end_of};
+ghost use Rattle.piece_check.specs.Pieces.{HasRoom};
 ghost use Rattle.source_front.specs.Stops.{Stops};
-ghost use Rattle.check_command.specs.Checks.{IsChecked, IsEnded, found_of};
+ghost use Rattle.check_command.specs.Checks.{IsChecked, IsEnded};
 
 use crate::begun::{Begun, begin};
-use crate::checked::Checked;
 use edge::ends::Source;
 use edge::reading::InputFault;
-use history_reports::verdict_report;
-use kern_ids::entries::NoMemory;
 use piece_check::{PieceCheck, PieceEnd};
 use source_front::{next_piece, piece_room};
 use std::alloc::Global;
@@ -47,29 +39,34 @@ fn feed_rest<S: Source>(
     }
 }
 
-// What is told of an end of a check.
-fn told_of_end(alloc: Global, end: PieceEnd) -> Result<Checked, NoMemory>
-    ensures { IfOk result (λ found. (s : Plan) (h : Result (List Entry) Fault) → end ≡ end_of s h → told Check (with_plan s h) ≡ found_of found) }
+// Reads an input of at most `limit` bytes to its end, and checks it.
+fn check_pieces<S: Source>(
+    alloc: Global,
+    source: &mut S,
+    limit: usize,
+) -> Result<PieceEnd, InputFault>
+    requires { limit < 2 ^ 31 }
+    ensures checked { IfOk result (λ end. IsChecked (S.left source.old) (S.left source.new) limit end) }
+    ensures stops { IfErr result (λ e. Stops e (S.left source.old) (S.left source.new) (S.fault_count source.old) (S.fault_count source.new) limit) }
+    ensures grows { S.fault_count source.old ≤ S.fault_count source.new }
 {
-    match end {
-        PieceEnd::Done(verdict) => {
-            let report = verdict_report(alloc, &verdict)?;
-            Ok(Checked::Told(report))
-        }
-        PieceEnd::Bad { line, why } => Ok(Checked::Bad { line, why }),
+    let mut piece = piece_room(alloc)?;
+    match begin(alloc, source, &mut piece, limit)? {
+        Begun::Checks { check, room } => feed_rest(source, &mut piece, check, room),
+        Begun::Bad { line, why } => Ok(PieceEnd::Bad { line, why }),
     }
 }
 
 /// Reads an input of at most `limit` bytes to its end, the first fault of the source, or the first byte past the limit,
-/// whatever the bytes are: what is told of the scenario and the history that they are, or their first fault. It holds one
+/// whatever the bytes are: the verdict on the history behind the scenario, or the first fault of the text. It holds one
 /// piece of the text, and until the scenario is read what was read so far.
 pub fn check_source<S: Source>(
     alloc: Global,
     source: &mut S,
     limit: usize,
-) -> Result<Checked, InputFault>
+) -> Result<PieceEnd, InputFault>
     requires { limit < 2 ^ 31 }
-    ensures checked { IfOk result (λ found. IsChecked (S.left source.old) (S.left source.new) limit found) }
+    ensures checked { IfOk result (λ end. IsChecked (S.left source.old) (S.left source.new) limit end) }
     ensures over { IsErrOf result InputFault.Over → IsOver (S.left source.old) (S.left source.new) limit }
     ensures cause { IsErrOf result InputFault.Failed → Rose (S.fault_count source.old) (S.fault_count source.new) }
 
@@ -77,12 +74,5 @@ pub fn check_source<S: Source>(
     ensures taken { TakesFront (S.left source.old) (S.left source.new) (limit + 1) }
     ensures grows { S.fault_count source.old ≤ S.fault_count source.new }
 {
-    let mut piece = piece_room(alloc)?;
-    match begin(alloc, source, &mut piece, limit)? {
-        Begun::Checks { check, room } => {
-            let end = feed_rest(source, &mut piece, check, room)?;
-            Ok(told_of_end(alloc, end)?)
-        }
-        Begun::Bad { line, why } => Ok(Checked::Bad { line, why }),
-    }
+    check_pieces(alloc, source, limit)
 }

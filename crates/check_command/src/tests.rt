@@ -1,7 +1,10 @@
-use crate::{Checked, check_source};
+use crate::check_source;
 use edge::memory_source::MemSource;
 use edge::reading::InputFault;
 use kern_ids::faults::Why;
+use kern_ids::replies::Reply;
+use piece_check::PieceEnd;
+use replay_check::Verdict;
 use std::process::Abort;
 use std::test::Fail;
 
@@ -24,54 +27,29 @@ fn found(
     piece: usize,
     fails: &[u64],
     limit: usize,
-) -> Result<Result<Checked, InputFault>, Fail> {
+) -> Result<Result<PieceEnd, InputFault>, Fail> {
     assert!(rt; 0 < piece && limit < 1 << 30);
     let bytes = text.as_bytes().to_vec(rt.alloc())?;
     let mut source = MemSource::new(bytes, piece, fails.to_vec(rt.alloc())?);
     Ok(check_source(rt.alloc(), &mut source, limit))
 }
 
-// The text is told so, whatever the pieces.
-fn is_told(
-    rt: &(impl Abort + AllocGlobal),
-    text: &str,
-    status: u8,
-    line: &[u8],
-) -> Result<(), Fail> {
+// The check of the text ends so, whatever the pieces.
+fn ends(rt: &(impl Abort + AllocGlobal), text: &str, end: PieceEnd) -> Result<(), Fail> {
     for piece in [1, 2, 7, 5000] {
-        match found(rt, text, piece, &[], 5000)? {
-            Ok(Checked::Told(report)) => {
-                assert_eq!(rt; report.status(), status);
-                assert_eq!(rt; report.text(), line);
-            }
-            _ => assert!(rt; false),
-        }
-    }
-    Ok(())
-}
-
-// The text has this fault, whatever the pieces.
-fn is_bad(
-    rt: &(impl Abort + AllocGlobal),
-    text: &str,
-    number: u32,
-    cause: Why,
-) -> Result<(), Fail> {
-    for piece in [1, 2, 7, 5000] {
-        match found(rt, text, piece, &[], 5000)? {
-            Ok(Checked::Bad { line, why }) => {
-                assert_eq!(rt; (line, why), (number, cause));
-            }
-            _ => assert!(rt; false),
-        }
+        assert_eq!(rt; found(rt, text, piece, &[], 5000)?, Ok(end), "{piece}");
     }
     Ok(())
 }
 
 #[test]
 fn verdicts(rt: HostRuntime) -> Result<(), Fail> {
-    is_told(&rt, WHOLE, 0, b"legal\n")?;
-    is_told(&rt, OTHER_REPLY, 6, b"entry 1: expected wrote\n")
+    let other = Verdict::WrongReply {
+        place: 1,
+        expected: Reply::Wrote,
+    };
+    ends(&rt, WHOLE, PieceEnd::Done(Verdict::Legal))?;
+    ends(&rt, OTHER_REPLY, PieceEnd::Done(other))
 }
 
 #[test]
@@ -83,7 +61,7 @@ fn faults(rt: HostRuntime) -> Result<(), Fail> {
         ("order\nend\nhistory\ndone 0\n", 1, Why::Word),
         (SCENARIO, 12, Why::NoEnd),
     ] {
-        is_bad(&rt, text, line, why)?;
+        ends(&rt, text, PieceEnd::Bad { line, why })?;
     }
     Ok(())
 }
@@ -94,13 +72,13 @@ fn sources(rt: HostRuntime) -> Result<(), Fail> {
     let calls = WHOLE.len().div_ceil(7) as u64;
     for call in 0..calls + 1 {
         let failed = found(&rt, WHOLE, 7, &[call], 5000)?;
-        assert!(rt; matches!(failed, Err(InputFault::Failed)), "{call}");
+        assert_eq!(rt; failed, Err(InputFault::Failed), "{call}");
     }
     let whole = found(&rt, WHOLE, 7, &[calls + 1], WHOLE.len())?;
-    assert!(rt; whole.is_ok());
+    assert_eq!(rt; whole, Ok(PieceEnd::Done(Verdict::Legal)));
     for limit in [0, 1, 100, WHOLE.len() - 1] {
         let over = found(&rt, WHOLE, 7, &[], limit)?;
-        assert!(rt; matches!(over, Err(InputFault::Over)), "{limit}");
+        assert_eq!(rt; over, Err(InputFault::Over), "{limit}");
     }
     Ok(())
 }

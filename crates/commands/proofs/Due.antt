@@ -8,8 +8,9 @@ use Rattle.edge.specs.Ends.{ReadWhole, IsOver, AppendsFront}
 use Rattle.kern_ids.specs.declared.entries.Entry.{Entry}
 use Rattle.report_tables.specs.Summary.{summary_text}
 use Rattle.history_reports.specs.declared.report.Report.TheVariants as report
-use Rattle.check_command.specs.declared.checked.Checked.{Checked}
-use Rattle.check_command.specs.Checks.{IsChecked, found_of}
+use Rattle.piece_check.specs.declared.end.PieceEnd.{PieceEnd}
+use Rattle.check_command.specs.Checks.{IsChecked}
+use Rattle.commands.proofs.Checks.{check_told}
 use Rattle.history_reports.specs.declared.report.Judging.{Judging}
 use Rattle.history_reports.specs.declared.report.Judging.TheVariants.{Check}
 use Rattle.history_reports.specs.Reports.{Told, report_of}
@@ -29,7 +30,7 @@ use Rattle.commands.specs.declared.command.Command.TheVariants.{Read, Make}
 use Rattle.commands.specs.Answers.{due_of}
 use Rattle.commands.specs.Commands.{command_of, limit_of, reads}
 use Rattle.commands.specs.Messages.{too_long, read_fault}
-use Rattle.commands.specs.Outcome.{Due, answered, reported, read_outcome, outcome_of, outcome_by, made_outcome}
+use Rattle.commands.specs.Outcome.{Due, answered, reported, told_of_end, read_outcome, outcome_of, outcome_by, made_outcome}
 use Rattle.commands.specs.Calls.{IsInput, IsTakenBy, IsReadDue, IsReadFault, IsDue, IsOutcome, WritesOutcome}
 
 -- a front of a text, and of one that equals it
@@ -71,11 +72,11 @@ over_due-named r limit old new before now l o =
     subst (λ (n : ℕ). IsReadDue r old new before now (7, too_long n)) (sym l) (over_due r old new before now (subst (λ (n : ℕ). IsOver old new n) l o))
 
 -- an input that was checked as it was read
-pub checked_due : (limit : ℕ) (old new : Option (List ℕ)) (before now : ℕ) (found : Checked) (due : Due) → limit ≡ limit_of (Judge Check) → IsChecked old new limit found → due ≡ reported (found_of found)
+pub checked_due : (limit : ℕ) (old new : Option (List ℕ)) (before now : ℕ) (end : PieceEnd) (due : Due) → limit ≡ limit_of (Judge Check) → IsChecked old new limit end → due ≡ reported (told_of_end end)
     → IsReadDue (Judge Check) old new before now due
-checked_due limit old new before now found due l c d =
+checked_due limit old new before now end due l c d =
     let few : length c.bytes ≤ limit_of (Judge Check) = subst (λ (n : ℕ). length c.bytes ≤ n) l c.few in
-    whole_due (Judge Check) old new before now c.bytes due few c.whole (d ∙ ap reported (sym c.told))
+    whole_due (Judge Check) old new before now c.bytes due few c.whole (d ∙ ap reported (ap told_of_end c.ends ∙ sym (check_told c.bytes)))
 
 -- what is due for a command is due for its words
 pub read_is_due : (words : List Word) (r : Reading) (old new : Option (List ℕ)) (before now : ℕ) (due : Due) → command_of words ≡ Some (Read r) → IsReadDue r old new before now due → IsDue words old new before now due

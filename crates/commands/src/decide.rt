@@ -3,24 +3,24 @@
 ghost use Rattle.std.specs.Prelude.{◌≡◌, ◌≤◌, ◌<◌, ◌^◌, false, length, IfOk};
 ghost use Rattle.std.specs.Io.KnownBytes.{Keeps};
 ghost use Rattle.scenario_text.specs.Grammar.{scenario_of};
-ghost use Rattle.check_command.specs.Checks.{found_of};
 ghost use Rattle.commands.specs.Commands.{asks_reading};
 ghost use Rattle.commands.specs.declared.command.Reading.TheVariants.{Judge};
 ghost use Rattle.history_reports.specs.declared.report.Judging.TheVariants.{Check};
 ghost use Rattle.history_reports.specs.Reports.{report_of};
-ghost use Rattle.commands.specs.Outcome.{answered, made_outcome, read_outcome, reported};
+ghost use Rattle.commands.specs.Outcome.{answered, made_outcome, read_outcome, reported, told_of_end};
 ghost use Rattle.commands.specs.Answers.{due_of};
 ghost use Rattle.commands.specs.Calls.{IsReadDue, IsDue};
 
 use crate::answer::Answer;
 use crate::command::{Command, Making, Reading, Rewriting, command_of};
-use check_command::{Checked, check_source};
+use check_command::check_source;
 use edge::ends::Source;
 use edge::reading::{InputFault, read_to_limit};
 use edge::words::Words;
-use history_reports::{Judging, tell};
+use history_reports::{Judging, tell, verdict_report};
 use kern_ids::entries::NoMemory;
 use kern_ids::faults::ReadFault;
+use piece_check::PieceEnd;
 use scenario_maker::make_scenario;
 use scenario_text::read_scenario;
 use serial_run::run_serial;
@@ -86,13 +86,16 @@ fn answer_whole<S: Source>(
     }
 }
 
-// What is answered on what was found of an input.
-fn answer_found(found: Checked) -> Answer
-    ensures { due_of result ≡ reported (found_of found) }
+// What is answered on the end of a check.
+fn answer_end(alloc: Global, end: PieceEnd) -> Result<Answer, NoMemory>
+    ensures { IfOk result (λ a. due_of a ≡ reported (told_of_end end)) }
 {
-    match found {
-        Checked::Told(report) => Answer::Reported(report),
-        Checked::Bad { line, why } => Answer::BadLine(line, why),
+    match end {
+        PieceEnd::Done(verdict) => {
+            let report = verdict_report(alloc, &verdict)?;
+            Ok(Answer::Reported(report))
+        }
+        PieceEnd::Bad { line, why } => Ok(Answer::BadLine(line, why)),
     }
 }
 
@@ -103,7 +106,7 @@ fn answer_checked<S: Source>(alloc: Global, source: &mut S) -> Result<Answer, No
 {
     let limit = Reading::Judge(Judging::Check).limit();
     match check_source(alloc, source, limit) {
-        Ok(found) => Ok(answer_found(found)),
+        Ok(end) => answer_end(alloc, end),
         Err(InputFault::Over) => Ok(Answer::TooLong(limit)),
         Err(InputFault::Failed) => Ok(Answer::ReadFault),
         Err(InputFault::NoMemory) => Err(NoMemory),
