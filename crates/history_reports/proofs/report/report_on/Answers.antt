@@ -1,4 +1,4 @@
-use Rattle.std.proofs.Common.{◌≡◌, List, ⊥, refl, sym, ap, ◌∙◌, subst, rules, absurd}
+use Rattle.std.proofs.Common.{◌≡◌, List, refl, sym, ap, ◌∙◌, subst}
 use Rattle.std.specs.Prelude.{IfOk}
 use Rattle.kern_ids.specs.declared.entries.Entry.{Entry}
 use Rattle.kernel_model.specs.Scenario.{Plan}
@@ -34,6 +34,5 @@ returns c =
     let s = c.args.scenario.now in
     let h = c.args.history.now.list in
     let verdict : c.verdict.result ≡ verdict_of s h = c.verdict.ensures.verdict h c.in_ok-replay.ensures in
-    let is : c.in_default.verdict ≡ c.verdict.result = search rules in
     let told : told_by j s h c.verdict.result ≡ verdict_told c.verdict.result = wrong-told j s h c.verdict.result c.in_default.not-Legal in
-    subst (λ (t : Told). IfOk c.verdict_report.result (λ r. told_of r ≡ t)) (ap verdict_told is ∙ (sym told ∙ ap (told_by j s h) verdict)) c.verdict_report.ensures
+    subst (λ (t : Told). IfOk c.verdict_report.result (λ r. told_of r ≡ t)) (sym told ∙ ap (told_by j s h) verdict) c.verdict_report.ensures
