@@ -23,7 +23,7 @@ pub record IsFed (before now : CheckView) (old new : Option (List ℕ)) (most ro
 
 pub fed-none : (check : CheckView) (old : Option (List ℕ)) (most : ℕ) → HasRoom check most → IsFed check check old old most most
 fed-none check old most fits = record {
-  taken = record { bytes = []; took = Consumes-nil old; count = refl };
+  taken = record { bytes = []; took = Consumes-nil old; count = omega arith };
   fits = fits;
   takes = λ s n text h. subst (λ (xs : List ℕ). StandsFor s n xs check) (sym (append-nil text)) h;
 }

@@ -3,11 +3,8 @@ use Rattle.std.proofs.Common.{◌≡◌, ◌≤◌, ◌+◌, ◌++◌, ℕ, List
 use Rattle.std.proofs.lemmas.List.{drop-append-le}
 use Rattle.std.specs.Io.KnownBytes.{Consumes, IsAtEnd}
 use Rattle.std.proofs.KnownBytes.{Consumes-trans}
-use Rattle.std.specs.Prelude.{IfOk, IfErr, IsErrOf}
-use Rattle.edge.specs.Ends.{ReadWhole, IsOver, Rose, TakesFront}
+use Rattle.edge.specs.Ends.{ReadWhole}
 use Rattle.edge.specs.declared.reading.InputFault.{InputFault}
-use Rattle.edge.specs.declared.reading.InputFault.TheVariants as fault
-use Rattle.edge.proofs.Bytes.{is_over}
 use Rattle.kern_ids.specs.declared.faults.Why.{Why}
 use Rattle.kernel_model.specs.Scenario.{Plan}
 use Rattle.history_reading.specs.Histories.{history_of}
@@ -52,42 +49,7 @@ found-bad line why old new limit b = record {
   ends = sym (ap (ended_by b.bytes) b.fault);
 }
 
--- ---- an input that was not read to its end
-
 -- the rest was not read on behind a check that was begun
 pub begun-stops : (e : InputFault) (check : CheckView) (room limit : ℕ) (old mid new : Option (List ℕ)) (before between after : ℕ) → IsBegun check room old mid limit → before ≤ between
     → Stops e mid new between after room → Stops e old new before after limit
 begun-stops e check room limit old mid new before between after b grows stops = stops-behind e old mid new before between after room limit b.bytes b.took b.count grows stops
-
-pub stopped-over : (old new : Option (List ℕ)) (before now limit : ℕ) → Stops fault.Over old new before now limit → IsOver old new limit
-stopped-over old new before now limit s = is_over old new limit s.0 s.1 s.2
-
-pub stopped-failed : (old new : Option (List ℕ)) (before now limit : ℕ) → Stops fault.Failed old new before now limit → Rose before now
-stopped-failed old new before now limit s = s.0
-
--- at most one byte past the limit was taken
-pub stopped-front : (e : InputFault) (old new : Option (List ℕ)) (before now limit : ℕ) → Stops e old new before now limit → TakesFront old new (limit + 1)
-stopped-front fault.Over old new before now limit s = let count = s.2 in (s.0, (omega (arith, count), s.1))
-stopped-front fault.Failed old new before now limit s = let few = s.1.1 in (s.1.0, (omega (arith, few), s.1.2))
-stopped-front fault.NoMemory old new before now limit s = let few = s.1 in (s.0, (omega (arith, few), s.2))
-
-whole_front : (old new : Option (List ℕ)) (bytes : List ℕ) (limit : ℕ) → ReadWhole old new bytes → length bytes ≤ limit → TakesFront old new (limit + 1)
-whole_front None new bytes limit whole few = (bytes, (omega (arith, few), tt))
-whole_front (Some xs) new bytes limit whole few =
-    (bytes, (omega (arith, few), subst (λ (left : Option (List ℕ)). Consumes (Some xs) left bytes) (sym whole.1) (sym whole.0 ∙ sym (append-nil bytes))))
-
-pub checked-front : (found : PieceEnd) (old new : Option (List ℕ)) (limit : ℕ) → IsChecked old new limit found → TakesFront old new (limit + 1)
-checked-front found old new limit c = whole_front old new c.bytes limit c.whole c.few
-
--- all three of what may come
-pub front-taken : (r : Result PieceEnd InputFault) (old new : Option (List ℕ)) (before now limit : ℕ) → IfOk r (λ found. IsChecked old new limit found) → IfErr r (λ e. Stops e old new before now limit) → TakesFront old new (limit + 1)
-front-taken (Ok found) old new before now limit ok err = checked-front found old new limit ok
-front-taken (Err e) old new before now limit ok err = stopped-front e old new before now limit err
-
-pub over-is : (r : Result PieceEnd InputFault) (old new : Option (List ℕ)) (before now limit : ℕ) → IfErr r (λ e. Stops e old new before now limit) → IsErrOf r fault.Over → IsOver old new limit
-over-is (Ok found) old new before now limit err is = absurd is
-over-is (Err e) old new before now limit err is = stopped-over old new before now limit (subst (λ (x : InputFault). Stops x old new before now limit) is err)
-
-pub failed-is : (r : Result PieceEnd InputFault) (old new : Option (List ℕ)) (before now limit : ℕ) → IfErr r (λ e. Stops e old new before now limit) → IsErrOf r fault.Failed → Rose before now
-failed-is (Ok found) old new before now limit err is = absurd is
-failed-is (Err e) old new before now limit err is = stopped-failed old new before now limit (subst (λ (x : InputFault). Stops x old new before now limit) is err)
