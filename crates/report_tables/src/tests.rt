@@ -53,6 +53,12 @@ fn run<R: Abort>(rt: &R, alloc: Global, text: &[u8]) -> Result<(Scenario, EntryL
     Ok((scenario, history))
 }
 
+// What stands after the scenario's turns.
+fn facts_after(alloc: Global, scenario: &Scenario) -> Result<Facts, NoMemory> {
+    let kernel = run_kernel(alloc, scenario)?;
+    Facts::of_kernel(alloc, scenario.boot(), kernel.kernel())
+}
+
 #[test]
 fn reasons(rt: HostRuntime) -> Result<(), Fail> {
     let alloc = rt.alloc();
@@ -170,8 +176,7 @@ fn tables(rt: HostRuntime) -> Result<(), Fail> {
         ),
     ] {
         let scenario = read(&rt, alloc, text)?;
-        let kernel = run_kernel(alloc, &scenario)?;
-        let facts = Facts::of_kernel(alloc, scenario.boot(), kernel.kernel())?;
+        let facts = facts_after(alloc, &scenario)?;
         assert_eq!(rt;
             table_text(alloc, &facts)?.as_slice(),
             table.as_bytes(),
