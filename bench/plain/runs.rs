@@ -166,7 +166,9 @@ fn judge(name: &str, number: usize, scenario: &Scenario, history: &str) -> Vec<u
         "json" => json(&kernel, &entries),
         "why" => {
             let mut before = Kernel::new(&scenario.boot);
-            entries[..number].iter().for_each(|e| drop(before.call(e.who, &e.call)));
+            for entry in &entries[..number] {
+                before.call(entry.who, &entry.call);
+            }
             why(&before, &entries, number)
         }
         _ => verdict.into_bytes(),
