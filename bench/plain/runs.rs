@@ -166,7 +166,7 @@ fn judge(name: &str, number: usize, scenario: &Scenario, history: &str) -> Vec<u
         "json" => json(&kernel, &entries),
         "why" => {
             let mut before = Kernel::new(&scenario.boot);
-            for entry in &entries[..number] {
+            for entry in entries.iter().take(number) {
                 before.call(entry.who, &entry.call);
             }
             why(&before, &entries, number)
