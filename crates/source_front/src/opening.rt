@@ -10,8 +10,15 @@ use edge::reading::InputFault;
 use kern_ids::entries::NoMemory;
 use kern_ids::faults::{ReadFault, Why};
 use kernel_model::scenario::Scenario;
+use memchr::memmem;
 use scenario_text::read_front;
 use std::alloc::Global;
+
+/// The last line of a scenario, behind another one.
+const END: &[u8] = b"\nend\n";
+
+/// How many times as many bytes there have to be before they are looked at again without that line.
+const MORE: usize = 8;
 
 /// What an input begins with.
 #[derive(Drop)]
@@ -58,12 +65,26 @@ fn settled(opening: Opening) -> Option<Opening>
     }
 }
 
-// What the bytes begin with, where there are as many as wanted and more of them don't change it.
-fn open(alloc: Global, bytes: &[u8], wanted: usize) -> Result<Option<Opening>, NoMemory>
+// Whether a line that can end a scenario is ended among the last `count` bytes.
+fn brings_end(bytes: &[u8], count: usize) -> bool {
+    let before = bytes
+        .len()
+        .saturating_sub(count.saturating_add(END.len() - 1));
+    memmem::find(&bytes[before..], END).is_some()
+}
+
+// What the bytes begin with, where more bytes don't change it. They are looked at only where there are as many as
+// wanted, or the last `count` of them may end a scenario.
+fn open(
+    alloc: Global,
+    bytes: &[u8],
+    count: usize,
+    wanted: usize,
+) -> Result<Option<Opening>, NoMemory>
     requires { length bytes.now < 2 ^ 31 }
     ensures { IfOk result (λ found. IfSome found (λ opening. Says opening bytes.now × Stays opening)) }
 {
-    if bytes.len() < wanted {
+    if bytes.len() < wanted && !brings_end(bytes, count) {
         return Ok(None);
     }
     let opening = front(alloc, bytes)?;
@@ -117,8 +138,8 @@ fn read_past<S: Source>(
 }
 
 /// Reads an input of at most `limit` bytes, a piece at a time: until its bytes begin with a scenario, which are then
-/// gathered, or else to its end. The bytes are looked at each time that there are twice as many, and gathered no more
-/// once a line is refused.
+/// gathered, or else to its end. The bytes are looked at where a line comes that can end a scenario, and each time that
+/// there are eight times as many; they are gathered no more once a line is refused.
 pub fn read_opening<S: Source>(
     alloc: Global,
     source: &mut S,
@@ -140,12 +161,12 @@ pub fn read_opening<S: Source>(
             return Ok(front(alloc, bytes)?);
         }
         gather(bytes, &piece[..n])?;
-        match open(alloc, bytes, wanted)? {
+        match open(alloc, bytes, n, wanted)? {
             Some(opening) => return read_past(source, piece, opening, limit - bytes.len()),
             None => (),
         }
         if wanted <= bytes.len() {
-            wanted = bytes.len().saturating_mul(2);
+            wanted = bytes.len().saturating_mul(MORE);
         }
     }
 }
