@@ -6,3 +6,4 @@ pub mod LongLaws
 pub mod SaysLaws
 pub mod KeptLaws
 pub mod FeedLaws
+pub mod Passed

@@ -4,7 +4,8 @@ use Rattle.kern_ids.specs.declared.faults.Why.{Why}
 use Rattle.kern_ids.specs.declared.entries.Entry.{Entry}
 use Rattle.line_text.specs.Cut.{lines_of}
 use Rattle.history_text.specs.Entries.{entry_text}
-use Rattle.history_reading.specs.Entries.{HasText}
+use Rattle.history_reading.specs.Entries.{HasText, IsLineOf}
+use Rattle.history_feed.specs.declared.expected.Expected.TheVariants as next
 use Rattle.history_feed.specs.declared.feed.HistoryFeed.{HistoryFeed}
 use Rattle.history_feed.specs.Lines.{line_end}
 use Rattle.history_feed.specs.Kept.{kept_of}
@@ -82,3 +83,16 @@ pub record IsFed (old new : HistoryFeed) (given : Option Entry) (text piece take
 abbrev pub count_of : Result (List Entry) Fault → Result ℕ Fault
 count_of (Ok h) = Ok (length h)
 count_of (Err f) = Err f
+
+-- the piece begins with this line and ends it, no byte of it came before, and an entry may stand in its place
+pub record IsNextLine (f : HistoryFeed) (piece line : List ℕ) : Type 0 where
+  pub sound : f.fault ≡ None
+  pub expected : f.expected ≡ next.Entries
+  pub empty : f.rest.len ≡ 0
+  pub few : f.entries < 200000
+  pub behind : List ℕ
+  pub cut : lines_of piece ≡ line ∷ lines_of behind
+
+-- it is the line of some entry
+abbrev pub IsEntryLine : List ℕ → Type 0
+IsEntryLine line = (e : Entry) × IsLineOf line e

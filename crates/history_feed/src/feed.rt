@@ -1,18 +1,22 @@
 //! A reader of a history's text that is given in pieces.
 
-ghost use Rattle.std.specs.Prelude.{◌≡◌, ◌<◌, ◌≤◌, ◌+◌, ◌++◌, ◌^◌, ℕ, List, [], length, take, None, IfSome};
+ghost use Rattle.std.specs.Prelude.{◌≡◌, ◌<◌, ◌≤◌, ◌+◌, ◌++◌, ◌^◌, ℕ, List, [], length, take, None, Some, IfSome};
 ghost use Rattle.line_text.specs.Cut.{lines_of};
-ghost use Rattle.history_reading.specs.Entries.{HasText};
+ghost use Rattle.kern_ids.specs.declared.entries.Entry.{Entry as AnEntry};
+ghost use Rattle.history_reading.specs.Entries.{HasText, IsLineOf};
 ghost use Rattle.history_reading.specs.Histories.{history_of};
 ghost use Rattle.history_feed.specs.Kept.{kept_of};
 ghost use Rattle.history_feed.specs.Left.{Place, said_of, left_by, rest_behind, one_byte, whole_of};
-ghost use Rattle.history_feed.specs.Feeds.{first_line_of, Keeps, KeepsLeft, IsEnded, StandsFor, HasRoom, taken_of, entry_ended, IsTextOf, Gives, IsFed, count_of};
+ghost use Rattle.history_feed.specs.Feeds.{first_line_of, Keeps, KeepsLeft, IsEnded, StandsFor, HasRoom, taken_of, entry_ended, IsTextOf, Gives, IsFed, IsNextLine, IsEntryLine, count_of};
 
 use crate::expected::Expected;
 use crate::kept_line::KeptLine;
 use kern_ids::entries::Entry;
 use kern_ids::faults::Why;
 use line_text::cut_at;
+
+/// The most entries that a history's text has.
+const MOST: u32 = 200_000;
 
 /// How many bytes of a piece were taken, and the entry whose line they end, if there is one.
 #[derive(Drop)]
@@ -191,6 +195,50 @@ impl HistoryFeed {
             },
             None => self.take(piece),
         }
+    }
+
+    /// The line that the piece begins with, without its line feed, where the piece ends it, no byte of it came before, and
+    /// an entry may stand in its place.
+    pub fn next_line<'a>(&self, piece: &'a [u8]) -> Option<&'a [u8]>
+        ensures { IfSome result (λ line. IsNextLine self.now piece.now line.now) }
+    {
+        if self.fault.is_some() {
+            return None;
+        }
+        if self.rest.len != 0 {
+            return None;
+        }
+        if MOST <= self.entries {
+            return None;
+        }
+        match self.expected {
+            Expected::Entries => match cut_at(piece, b'\n') {
+                Some((line, _)) => Some(line),
+                None => None,
+            },
+            _ => None,
+        }
+    }
+
+    /// Takes that line with its end, where it is known that it is an entry's: as `feed` does, but it doesn't look at it.
+    /// The number of the bytes that are taken.
+    pub fn pass(&mut self, _piece: &[u8], line: &[u8]) -> usize
+        requires next { IsNextLine self.old _piece.now line.now }
+        requires entry { IsEntryLine line.now }
+        requires room { HasRoom self.old (length _piece.now) }
+        ensures taken { result ≡ length line.now + 1 }
+        ensures within { result ≤ length _piece.now }
+        // Where there was room for more bytes, there still is.
+        ensures room { (more : ℕ) → HasRoom self.old (result + more) → HasRoom self.new more }
+        ensures first { first_line_of self.new ≡ first_line_of self.old }
+        // Whatever bytes it stood for, it stands for those and the bytes taken,
+        ensures stands { (text : List ℕ) → StandsFor self.old text → StandsFor self.new (text ++ take result _piece.now) }
+        // and by the entry of the line the entries grow.
+        ensures gives { (text : List ℕ) (e : AnEntry) → IsLineOf line.now e → StandsFor self.old text → Gives (Some e) (left_by (first_line_of self.old) text) (left_by (first_line_of self.old) (text ++ take result _piece.now)) }
+    {
+        self.line += 1;
+        self.entries += 1;
+        line.len() + 1
     }
 
     /// The number of entries of the text, or the line of its first fault and why it is refused.

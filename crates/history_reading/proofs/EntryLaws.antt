@@ -33,10 +33,10 @@ use Rattle.history_reading.proofs.Signs.{decimal_unsigned, call_unsigned, line_u
 -- ---- the words of an entry
 
 -- thread and call
-abbrev front_words : Entry → List Word
+abbrev pub front_words : Entry → List Word
 front_words e = decimal e.who ∷ call_words e.call
 
-entry_line : (e : Entry) → line_of (entry_words e) ≡ line_of (front_words e) ++ 32 ∷ 61 ∷ 32 ∷ line_of (reply_words e.reply)
+pub entry_line : (e : Entry) → line_of (entry_words e) ≡ line_of (front_words e) ++ 32 ∷ 61 ∷ 32 ∷ line_of (reply_words e.reply)
 entry_line e = line_of-append (decimal e.who) (call_words e.call) (codes "=") (reply_words e.reply)
 
 verb_word_takes : (ws : List Word) (x : Verb × List Word) → verb_word ws ≡ Ok x → ws ≡ verb_text x.0 ∷ x.1

@@ -82,11 +82,11 @@ says_takes : (count : ℕ) (line : List ℕ) (said : Option Entry) → line_says
 unfolding line_says
 says_takes count line said e = said_takes count line (words_of line) said refl e
 
-not_done : (n : ℕ) → n < 2 ^ 64 → bytes_eq (decimal n) (codes "done") ≡ false
+pub not_done : (n : ℕ) → n < 2 ^ 64 → bytes_eq (decimal n) (codes "done") ≡ false
 not_done n small =
     false_from_ne_true (bytes_eq (decimal n) (codes "done")) (λ e. false≢true (ap (list_all is_ascii_digit) (sym (same_word (decimal n) (codes "done") e)) ∙ digits_decimal own n (omega arith)))
 
-entry_says : (count : ℕ) (e : Entry) → HasText e → count < 200000 → line_says count (line_of (entry_words e)) ≡ Ok (Some e)
+pub entry_says : (count : ℕ) (e : Entry) → HasText e → count < 200000 → line_says count (line_of (entry_words e)) ≡ Ok (Some e)
 unfolding line_says
 entry_says count e h room =
     let clean = entry_clean e h in

@@ -4,11 +4,11 @@ use Rattle.std.specs.List.{starts_with}
 use Rattle.kern_ids.specs.declared.faults.Why.{Why}
 use Rattle.kern_ids.specs.declared.faults.Why.TheVariants as why
 use Rattle.kern_ids.specs.declared.entries.Entry.{Entry}
-use Rattle.line_text.specs.Cut.{Word, words_of}
+use Rattle.line_text.specs.Cut.{Word, words_of, line_of}
 use Rattle.line_text.specs.Words.{◌>>=◌, reference}
 use Rattle.line_text.specs.Verbs.{verb_of}
 use Rattle.line_text.specs.Calls.{call_of, HasLine}
-use Rattle.history_text.specs.Entries.{entry_text}
+use Rattle.history_text.specs.Entries.{entry_words, entry_text}
 use Rattle.history_reading.specs.Replies.{named, reply_of, HasReply}
 use Rattle.line_text.specs.declared.verb.Verb.{Verb}
 
@@ -56,3 +56,8 @@ pub record HasText (e : Entry) : Type 0 where
 -- the first n bytes are the text of an entry
 abbrev pub BeginsWith : List ℕ → Entry → ℕ → Type 0
 BeginsWith bytes e n = (n ≤ length bytes) × (take n bytes ≡ entry_text e)
+
+-- the line is that of the entry, without its line feed, and the entry has a text
+pub record IsLineOf (line : List ℕ) (e : Entry) : Type 0 where
+  pub words : line ≡ line_of (entry_words e)
+  pub text : HasText e

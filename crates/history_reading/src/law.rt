@@ -42,8 +42,8 @@ fn tasks_have_words(tasks: &TaskLine)
     }
 }
 
-// A sound call has a line.
-fn call_has_line(call: &Call)
+/// A sound call has a line.
+pub fn call_has_line(call: &Call)
     requires { IsSoundCall call.now }
     ensures { HasLine 64 256 call.now }
 {
@@ -96,8 +96,8 @@ fn refusal_has_words(refusal: &Refusal)
     }
 }
 
-// A sound reply has words.
-fn reply_has_words(reply: &Reply)
+/// A sound reply has words.
+pub fn reply_has_words(reply: &Reply)
     requires { IsSoundReply reply.now }
     ensures { HasReply reply.now }
 {
