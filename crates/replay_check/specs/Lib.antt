@@ -1,3 +1,4 @@
 pub mod Same
 pub mod Verdicts
 pub mod Replays
+pub mod Lines

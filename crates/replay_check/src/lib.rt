@@ -4,10 +4,13 @@
 
 mod checks;
 pub mod law;
+mod line_replay;
+mod lines;
 mod replays;
 mod same;
 mod verdicts;
 
 pub use checks::{check, replay};
+pub use line_replay::LineReplay;
 pub use replays::Replay;
 pub use verdicts::Verdict;

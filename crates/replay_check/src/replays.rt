@@ -1,18 +1,24 @@
 //! A history that is played again, an entry at a time.
 
-ghost use Rattle.std.specs.Prelude.{◌≡◌, ◌++◌, ◌∷◌, [], ◌^◌, ◌<◌, ℕ, List, length, true, IsTrue, IfOk, OnOk, OnErr};
+ghost use Rattle.std.specs.Prelude.{◌≡◌, ◌++◌, ◌∷◌, [], ◌^◌, ◌<◌, ◌≤◌, ℕ, List, length, drop, true, None, IsTrue, IfOk, OnOk, OnErr};
 ghost use Rattle.std.specs.Option.{option_map_or};
 ghost use Rattle.kern_ids.specs.declared.entries.Entry.{Entry};
 ghost use Rattle.kernel_model.specs.Histories.{fits};
+ghost use Rattle.replay_check.specs.Lines.{IsNextCall, IsReplayed, front_text};
 ghost use Rattle.replay_check.specs.Replays.{first_unspent, Stands, StandsFor};
 ghost use Rattle.replay_check.specs.Verdicts.{is_call_at, verdict_of};
 
+use crate::line_replay::LineReplay;
+use crate::lines::{begins_with, ends_with_reply, next_call, push_front, thread_of};
 use crate::same::{same_call, same_reply};
 use crate::verdicts::Verdict;
+use history_text::push_reply;
+use kern_ids::calls::Call;
 use kern_ids::entries::{Entry, NoMemory};
 use kern_ids::ids::ThreadId;
+use kern_ids::lines::LineBuf;
 use kernel_model::scenario::Scenario;
-use one_thread::kernel::OneThread;
+use replay_kernel::kernel::ReplayKernel;
 use std::alloc::Global;
 use std::marker::Model;
 
@@ -20,7 +26,7 @@ use std::marker::Model;
 /// there on the calls are made no more.
 #[derive(Drop)]
 pub struct Replay {
-    kernel: OneThread,
+    kernel: ReplayKernel,
     /// How many calls each thread has made.
     made: [usize; 32],
     fault: Option<Verdict>,
@@ -84,7 +90,7 @@ impl Replay {
         ensures { IfOk result (StandsFor scenario.now []) }
     {
         Ok(Replay {
-            kernel: OneThread::boot(alloc, scenario.boot())?,
+            kernel: ReplayKernel::boot(alloc, scenario.boot())?,
             made: [0; 32],
             fault: None,
         })
@@ -99,13 +105,13 @@ impl Replay {
         if self.fault.is_some() {
             return Ok(());
         }
-        let place = self.kernel.kernel().history().len() as u32;
+        let place = self.kernel.len() as u32;
         let thread = entry.who.get() as usize;
         if !is_call_at(scenario, entry, self.made[thread]) {
             self.fault = Some(Verdict::WrongCall { place });
             return Ok(());
         }
-        let expected = self.kernel.call(entry.who, entry.call)?;
+        let expected = self.kernel.call(entry.who, &entry.call)?;
         if !same_reply(&entry.reply, &expected) {
             self.fault = Some(Verdict::WrongReply { place, expected });
             return Ok(());
@@ -114,8 +120,69 @@ impl Replay {
         Ok(())
     }
 
+    // Makes the next call of a thread, whose text the line begins with, and compares what stands behind it with the text
+    // of the reply.
+    fn answer_line(
+        &mut self,
+        scenario: &Scenario,
+        who: ThreadId,
+        call: &Call,
+        text: &mut LineBuf,
+        line: &[u8],
+    ) -> Result<LineReplay, NoMemory>
+        requires stands { Stands scenario.now self.old }
+        requires sound { self.old.fault ≡ None }
+        requires next { IsNextCall scenario.now self.old.made who call.now }
+        requires front { text.old ≡ front_text who call.now }
+        requires room { length text.old ≤ 558 }
+        requires begins { line.now ≡ text.old ++ drop (length text.old) line.now }
+        ensures replayed { IfOk result (λ replayed. IsReplayed replayed scenario.now line.now self.old self.new) }
+        ensures unchanged { OnErr result (self.new ≡ self.old) }
+    {
+        scenario.valid();
+        let place = self.kernel.len() as u32;
+        let expected = self.kernel.call(who, call)?;
+        push_reply(text, &expected);
+        if ends_with_reply(line, text.as_slice(), &expected) {
+            self.made[who.get() as usize] += 1;
+            return Ok(LineReplay::Right);
+        }
+        self.fault = Some(Verdict::WrongReply { place, expected });
+        Ok(LineReplay::Wrong)
+    }
+
+    /// Takes the entry whose line this is, without its line feed, and reads no entry: the line of the entry that is due is
+    /// put together and compared with it. Without memory it has taken nothing.
+    pub fn feed_line(
+        &mut self,
+        scenario: &Scenario,
+        line: &[u8],
+    ) -> Result<LineReplay, NoMemory>
+        requires { Stands scenario.now self.old }
+        ensures replayed { IfOk result (λ replayed. IsReplayed replayed scenario.now line.now self.old self.new) }
+        ensures unchanged { OnErr result (self.new ≡ self.old) }
+    {
+        if self.fault.is_some() {
+            return Ok(LineReplay::Unread);
+        }
+        let who = match thread_of(line) {
+            Some(who) => who,
+            None => return Ok(LineReplay::Unread),
+        };
+        let call = match next_call(scenario, &self.made, who) {
+            Some(call) => call,
+            None => return Ok(LineReplay::Unread),
+        };
+        let mut text = LineBuf::new();
+        push_front(&mut text, who, call);
+        if !begins_with(line, text.as_slice()) {
+            return Ok(LineReplay::Unread);
+        }
+        self.answer_line(scenario, who, call, &mut text, line)
+    }
+
     /// The kernel behind the entries before the first wrong one, or behind all of them.
-    pub fn kernel(&self) -> &OneThread
+    pub fn kernel(&self) -> &ReplayKernel
         ensures boot { result.now.boot ≡ self.now.boot }
         ensures history { result.now.history ≡ self.now.history }
     {

@@ -26,7 +26,7 @@ returns-then-not-is_call_at-clause-fed c = λ es stands.
     let none : r.fault ≡ None = none-from inside.fault (sym c.is_some.ensures ∙ c.if-is_some.false) in
     let within : e.who < 32 = subst (λ (n : ℕ). n < 32) c.get-thread.ensures.value c.get-thread.ensures.bound in
     let count : get_or inside.made c.get-thread.result 0 ≡ length (of_thread e.who es) = ap (λ (n : ℕ). get_or inside.made n 0) c.get-thread.ensures.value ∙ held.made none e.who within in
-    let place : c.len-place.result ≡ length es = c.len-place.ensures ∙ ap length (c.history.ensures ∙ c.kernel.ensures.history ∙ held.history none) in
+    let place : c.len-place.result ≡ length es = c.len-place.ensures ∙ ap length (held.history none) in
     stands-wrong_call s es e r _ (get_or inside.made c.get-thread.result 0) c.len-place.result held none count place
     (sym c.is_call_at.ensures.value ∙ c.if-not-is_call_at.true) refl refl refl
 
@@ -41,7 +41,7 @@ returns-then-not-same_reply-clause-fed c = λ es stands.
     let none : r.fault ≡ None = none-from inside.fault (sym c.is_some.ensures ∙ c.if-is_some.false) in
     let within : e.who < 32 = subst (λ (n : ℕ). n < 32) c.get-thread.ensures.value c.get-thread.ensures.bound in
     let count : get_or inside.made c.get-thread.result 0 ≡ length (of_thread e.who es) = ap (λ (n : ℕ). get_or inside.made n 0) c.get-thread.ensures.value ∙ held.made none e.who within in
-    let place : c.len-place.result ≡ length es = c.len-place.ensures ∙ ap length (c.history.ensures ∙ c.kernel.ensures.history ∙ held.history none) in
+    let place : c.len-place.result ≡ length es = c.len-place.ensures ∙ ap length (held.history none) in
     let due : expected ≡ reply_due s es e = c.in_ok-expected.ensures.reply ∙ ap₂ (λ (b : System) (h : List Entry). answer b (reverse h) e.who e.call) held.boot (held.history none) in
     stands-wrong_reply s es e r _ (get_or inside.made c.get-thread.result 0) c.len-place.result expected held none count place
     (sym c.is_call_at.ensures.value ∙ c.if-not-is_call_at.false) due (sym c.same_reply.ensures ∙ c.if-not-same_reply.true) c.call.ensures.boot refl refl
