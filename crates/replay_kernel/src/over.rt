@@ -1,0 +1,52 @@
+//! The calls of the tables, over the history that they stand for, which only proofs read.
+
+ghost use Rattle.std.specs.Prelude.{◌≡◌, ◌<◌, ◌+◌, ◌^◌, ◌∷◌, List, length, IsTrue};
+ghost use Rattle.kern_ids.specs.declared.entries.Entry.{Entry as AnEntry};
+ghost use Rattle.kernel_model.specs.Answers.{answer};
+ghost use Rattle.kernel_model.specs.Events.{purged_by};
+ghost use Rattle.kernel_model.specs.Histories.{fits};
+ghost use Rattle.kernel_tables.specs.Seen.{SeesBytes};
+ghost use Rattle.kernel_tables.specs.Stands.{Stands};
+ghost use Rattle.kernel_tables.specs.Values.{entry_of};
+
+use crate::past::Past;
+use kern_ids::calls::Call;
+use kern_ids::ids::{ObjId, ThreadId};
+use kern_ids::lines::ByteLine;
+use kern_ids::replies::Reply;
+use kernel_tables::tables::Tables;
+
+// Answers a call, and counts it in.
+pub(crate) fn step_over(
+    tables: &mut Tables,
+    _past: &Past,
+    who: ThreadId,
+    call: &Call,
+    seen: ByteLine,
+) -> Reply
+    ghost past: { List AnEntry }
+    requires stands { Stands tables.old past }
+    requires fits { IsTrue (fits tables.old.boot who call.now) }
+    requires seen { SeesBytes tables.old.boot past call.now seen }
+    requires room { length past + 1 < 2 ^ 64 }
+    ensures reply { result ≡ answer tables.old.boot past who call.now }
+    ensures stands { Stands tables.new (entry_of who call.now result ∷ past) }
+    ensures boot { tables.new.boot ≡ tables.old.boot }
+{
+    tables.step(who, call, seen)
+}
+
+// The object that the call would purge.
+pub(crate) fn purged_over(
+    tables: &Tables,
+    _past: &Past,
+    who: ThreadId,
+    call: &Call,
+) -> Option<ObjId>
+    ghost past: { List AnEntry }
+    requires stands { Stands tables.now past }
+    requires fits { IsTrue (fits tables.now.boot who call.now) }
+    ensures { result ≡ purged_by (answer tables.now.boot past who call.now) }
+{
+    tables.purged(who, call)
+}
