@@ -236,8 +236,8 @@ impl HistoryFeed {
         // and by the entry of the line the entries grow.
         ensures gives { (text : List ℕ) (e : AnEntry) → IsLineOf line.now e → StandsFor self.old text → Gives (Some e) (left_by (first_line_of self.old) text) (left_by (first_line_of self.old) (text ++ take result _piece.now)) }
     {
-        self.line += 1;
         self.entries += 1;
+        self.begin_line(Expected::Entries);
         line.len() + 1
     }
 

@@ -78,7 +78,7 @@ said_takes : (count : ℕ) (line : List ℕ) (ws : List Word) (said : Option Ent
 said_takes count line [] said cut e = absurd cc
 said_takes count line (w ∷ ws) said cut e = said_when (bytes_eq w (codes "done")) count line w ws said cut refl e
 
-says_takes : (count : ℕ) (line : List ℕ) (said : Option Entry) → line_says count line ≡ Ok said → SaysSo count line said
+pub says_takes : (count : ℕ) (line : List ℕ) (said : Option Entry) → line_says count line ≡ Ok said → SaysSo count line said
 unfolding line_says
 says_takes count line said e = said_takes count line (words_of line) said refl e
 

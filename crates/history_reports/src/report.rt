@@ -1,7 +1,7 @@
 //! What is told of a scenario with a history.
 
 ghost use Rattle.std.specs.Prelude.{◌≡◌, ◌<◌, ◌≤◌, ◌^◌, length, reverse, IfOk};
-ghost use Rattle.report_tables.specs.Facts.{facts_of};
+ghost use Rattle.report_tables.specs.Facts.{Tell, facts_of};
 ghost use Rattle.replay_check.specs.Verdicts.{verdict_of};
 ghost use Rattle.history_reports.specs.Reports.{verdict_told, reported, told_by, told_of, report_of, ReportGives};
 
@@ -9,8 +9,8 @@ use crate::input::read_input;
 use crate::lines::{legal_line, missing_line, no_entry_line, wrong_call_line, wrong_reply_line};
 use kern_ids::entries::{EntryList, NoMemory};
 use kern_ids::faults::ReadFault;
-use kernel_core::kernel::Kernel;
 use kernel_model::scenario::Scenario;
+use kernel_tables::tables::Tables;
 use replay_check::{Verdict, replay};
 use report_tables::{Facts, json_text, table_text, why_text};
 use std::alloc::Global;
@@ -112,29 +112,31 @@ fn report_why(
     }
 }
 
-// What is told of the kernel's history, which is legal and whole.
+// What is told of a history that is legal and whole, for which the tables stand.
 fn report_whole(
     alloc: Global,
     judging: Judging,
     scenario: &Scenario,
-    kernel: &Kernel,
+    history: &EntryList,
+    tables: &Tables,
 ) -> Result<Report, NoMemory>
-    requires { kernel.now.boot ≡ scenario.now.boot }
-    ensures { IfOk result (λ r. told_of r ≡ reported judging scenario.now kernel.now.history) }
+    requires tell { Tell tables.now (reverse history.now.list) }
+    requires boot { tables.now.boot ≡ scenario.now.boot }
+    ensures { IfOk result (λ r. told_of r ≡ reported judging scenario.now history.now.list) }
 {
     match judging {
         Judging::Check => verdict_report(alloc, &Verdict::Legal),
         Judging::Table => {
-            let facts = Facts::of_kernel(alloc, scenario.boot(), kernel)?;
+            let facts = Facts::of_tables(alloc, scenario.boot(), tables, history)?;
             let text = table_text(alloc, &facts)?;
             Ok(Report::Legal(text))
         }
         Judging::Json => {
-            let facts = Facts::of_kernel(alloc, scenario.boot(), kernel)?;
+            let facts = Facts::of_tables(alloc, scenario.boot(), tables, history)?;
             let text = json_text(alloc, &facts)?;
             Ok(Report::Legal(text))
         }
-        Judging::Why(n) => report_why(alloc, scenario, kernel.history(), n),
+        Judging::Why(n) => report_why(alloc, scenario, history, n),
     }
 }
 
@@ -150,7 +152,9 @@ fn report_on(
 {
     let replay = replay(alloc, scenario, history)?;
     match replay.verdict(scenario) {
-        Verdict::Legal => report_whole(alloc, judging, scenario, replay.kernel().kernel()),
+        Verdict::Legal => {
+            report_whole(alloc, judging, scenario, history, replay.kernel().tables())
+        }
         verdict => verdict_report(alloc, &verdict),
     }
 }

@@ -19,10 +19,10 @@ place p = Ok p
 abbrev fault : Fault → Result Place Fault
 fault f = Err f
 
-place_is : (p q : Place) → place p ≡ place q → p ≡ q
+pub place_is : (p q : Place) → place p ≡ place q → p ≡ q
 place_is p q e = cc
 
-not_both : (p : Place) (f : Fault) → fault f ≡ place p → ⊥
+pub not_both : (p : Place) (f : Fault) → fault f ≡ place p → ⊥
 not_both p f e = absurd cc
 
 abbrev some : Entry → Option Entry
@@ -32,7 +32,7 @@ none_given : (e : Entry) → some e ≡ None → ⊥
 none_given e h = absurd cc
 
 -- what a replay stands for at what is left
-abbrev ReplaysAt : Plan → ReplayView → Result Place Fault → Type 0
+abbrev pub ReplaysAt : Plan → ReplayView → Result Place Fault → Type 0
 ReplaysAt s r left = (p : Place) → left ≡ Ok p → replays.StandsFor s p.entries r
 
 before : (s : Plan) (r : ReplayView) (e : Entry) (left more : Result Place Fault) → IsFew left → feeds.Gives (Some e) left more → ReplaysAt s r left → replays.Stands s r

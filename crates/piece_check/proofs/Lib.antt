@@ -1,3 +1,4 @@
 pub mod Few
 pub mod Grown
 pub mod Ends
+pub mod LinesGrown

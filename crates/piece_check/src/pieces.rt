@@ -2,6 +2,7 @@
 
 ghost use Rattle.std.specs.Prelude.{◌≡◌, ◌<◌, ◌≤◌, ◌+◌, ◌++◌, ◌^◌, ℕ, List, [], length, take, IfOk, OnOk};
 ghost use Rattle.kernel_model.specs.Scenario.{Plan};
+ghost use Rattle.history_feed.specs.Feeds.{IsNextLine};
 ghost use Rattle.history_reading.specs.Histories.{history_of};
 ghost use Rattle.piece_check.specs.Pieces.{HasRoom, Stands, StandsFor, end_of, parts};
 
@@ -9,7 +10,7 @@ use crate::end::PieceEnd;
 use history_feed::{Fed, HistoryFeed};
 use kern_ids::entries::NoMemory;
 use kernel_model::scenario::Scenario;
-use replay_check::Replay;
+use replay_check::{LineReplay, Replay};
 use std::alloc::Global;
 use std::marker::Model;
 
@@ -32,7 +33,7 @@ impl Model for PieceCheck {
 }
 
 // Takes bytes of the piece up to the end of one line, and replays the entry that they end: how many it took.
-fn take_some(
+fn read_some(
     scenario: &Scenario,
     feed: &mut HistoryFeed,
     replay: &mut Replay,
@@ -52,6 +53,53 @@ fn take_some(
             Ok(taken)
         }
         None => Ok(taken),
+    }
+}
+
+// Takes a line that the piece begins with and ends, and replays it by its text where that can be.
+fn take_line(
+    scenario: &Scenario,
+    feed: &mut HistoryFeed,
+    replay: &mut Replay,
+    piece: &[u8],
+    line: &[u8],
+) -> Result<usize, NoMemory>
+    requires stands { Stands (parts scenario.now feed.old replay.old) }
+    requires room { HasRoom (parts scenario.now feed.old replay.old) (length piece.now) }
+    requires next { IsNextLine feed.old piece.now line.now }
+    ensures within { IfOk result (λ taken. taken ≤ length piece.now) }
+    ensures some { IfOk result (λ taken. 0 < length piece.now → 0 < taken) }
+    ensures room { IfOk result (λ taken. (more : ℕ) → HasRoom (parts scenario.now feed.old replay.old) (taken + more) → HasRoom (parts scenario.now feed.new replay.new) more) }
+    ensures stands { IfOk result (λ taken. (s : Plan) (n : ℕ) (text : List ℕ) → StandsFor s n text (parts scenario.now feed.old replay.old) → StandsFor s n (text ++ take taken piece.now) (parts scenario.now feed.new replay.new)) }
+{
+    match replay.feed_line(scenario, line)? {
+        LineReplay::Right => Ok(feed.pass(piece, line)),
+        // Its entry, if it has one, was replayed.
+        LineReplay::Wrong => {
+            let Fed { taken, entry: _ } = feed.feed(piece);
+            Ok(taken)
+        }
+        LineReplay::Unread => read_some(scenario, feed, replay, piece),
+    }
+}
+
+// Takes bytes of the piece up to the end of one line, and replays the entry that they end: how many it took.
+fn take_some(
+    scenario: &Scenario,
+    feed: &mut HistoryFeed,
+    replay: &mut Replay,
+    piece: &[u8],
+) -> Result<usize, NoMemory>
+    requires stands { Stands (parts scenario.now feed.old replay.old) }
+    requires room { HasRoom (parts scenario.now feed.old replay.old) (length piece.now) }
+    ensures within { IfOk result (λ taken. taken ≤ length piece.now) }
+    ensures some { IfOk result (λ taken. 0 < length piece.now → 0 < taken) }
+    ensures room { IfOk result (λ taken. (more : ℕ) → HasRoom (parts scenario.now feed.old replay.old) (taken + more) → HasRoom (parts scenario.now feed.new replay.new) more) }
+    ensures stands { IfOk result (λ taken. (s : Plan) (n : ℕ) (text : List ℕ) → StandsFor s n text (parts scenario.now feed.old replay.old) → StandsFor s n (text ++ take taken piece.now) (parts scenario.now feed.new replay.new)) }
+{
+    match feed.next_line(piece) {
+        Some(line) => take_line(scenario, feed, replay, piece, line),
+        None => read_some(scenario, feed, replay, piece),
     }
 }
 

@@ -3,3 +3,4 @@ pub mod Faults
 pub mod Begun
 pub mod Standing
 pub mod FirstWrong
+pub mod LineLaws

@@ -11,7 +11,7 @@ ghost use Rattle.report_tables.specs.Facts.{Tell};
 
 use crate::rows::{ObjectFacts, TaskFacts};
 use crate::trial::{killed, purged};
-use kern_ids::entries::{Entry, NoMemory};
+use kern_ids::entries::{Entry, EntryList, NoMemory};
 use kern_ids::ids::{ObjId, TaskId};
 use kern_ids::replies::{FrameCounts, TokenCounts};
 use kernel_core::kernel::Kernel;
@@ -166,11 +166,25 @@ fn told_facts(
 }
 
 impl Facts {
-    /// What stands after the kernel's history. Its tables are asked, and its entries are only counted.
+    /// What stands after a history, by tables that stand for it. The tables are asked, and the entries are only counted.
+    pub fn of_tables(
+        alloc: Global,
+        boot: &Boot,
+        tables: &Tables,
+        history: &EntryList,
+    ) -> Result<Facts, NoMemory>
+        requires tell { Tell tables.now (reverse history.now.list) }
+        requires boot { tables.now.boot ≡ boot.now }
+        ensures { IfOk result (λ f. f ≡ spec.facts_of boot.now (reverse history.now.list)) }
+    {
+        told_facts(alloc, boot, tables, history.as_slice())
+    }
+
+    /// What stands after the kernel's history.
     pub fn of_kernel(alloc: Global, boot: &Boot, kernel: &Kernel) -> Result<Facts, NoMemory>
         requires { kernel.now.boot ≡ boot.now }
         ensures { IfOk result (λ f. f ≡ spec.facts_of boot.now (reverse kernel.now.history)) }
     {
-        told_facts(alloc, boot, kernel.tables(), kernel.history().as_slice())
+        Facts::of_tables(alloc, boot, kernel.tables(), kernel.history())
     }
 }

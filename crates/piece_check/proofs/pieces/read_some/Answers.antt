@@ -3,7 +3,7 @@ use Rattle.kern_ids.specs.declared.entries.Entry.{Entry}
 use Rattle.history_feed.specs.Left.{left_by}
 use Rattle.history_feed.specs.Feeds as feeds
 use Rattle.piece_check.proofs.Grown.{can-replay, grown, none-grows}
-use Rattle.piece_check.proofs.pieces.take_some.Goals as goal
+use Rattle.piece_check.proofs.pieces.read_some.Goals as goal
 
 pub feed-requires : goal.feed-requires
 feed-requires c =

@@ -1,0 +1,13 @@
+use Rattle.std.proofs.Common.{sym, ◌∙◌, arith}
+use Rattle.history_feed.proofs.Passed.{none-from}
+use Rattle.history_feed.proofs.feed.HistoryFeed.next_line.Goals as goal
+
+pub returns-in-Some : goal.returns-in-Some
+returns-in-Some c = record {
+  sound = none-from c.args.self.now.fault (sym c.is_some.ensures ∙ c.if-is_some.false);
+  expected = c.in-Entries.is;
+  empty = omega (arith, c.if-self-ne0.false);
+  few = omega (arith, c.if-self-ge-MOST.false);
+  behind = c.in-Some.field-0-1.now;
+  cut = c.in-Some.ensures.parts;
+}
