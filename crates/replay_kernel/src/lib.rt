@@ -6,3 +6,5 @@ pub mod kernel;
 mod over;
 mod past;
 mod steps;
+#[cfg(test)]
+mod tests;
