@@ -1,5 +1,5 @@
 -- A line that begins as that of the entry that is due.
-use Rattle.std.proofs.Common.{◌≡◌, ℕ, ◌+◌, ◌<◌, ◌^◌, List, [], ◌∷◌, ◌++◌, length, get_or, set, reverse, true, false, Option, Some, None, refl, sym, ap, ap₂, ◌∙◌, arith, subst, append_assoc}
+use Rattle.std.proofs.Common.{◌≡◌, ℕ, ◌+◌, ◌<◌, List, [], ◌∷◌, ◌++◌, length, get_or, set, reverse, true, false, Some, None, sym, ap, ap₂, ◌∙◌, arith, subst, append_assoc}
 use Rattle.std.specs.Prelude.{codes}
 use Rattle.std.specs.Fmt.{decimal}
 use Rattle.std.proofs.lemmas.Bool.{false_from_ne_true}

@@ -1,5 +1,4 @@
-use Rattle.std.proofs.Common.{◌≡◌, sym, ◌∙◌}
-use Rattle.replay_check.specs.Verdicts.{verdict_of}
+use Rattle.std.proofs.Common.{sym, ◌∙◌}
 use Rattle.replay_check.proofs.Begun.{verdict-legal, verdict-whole, legal-verdict}
 use Rattle.replay_check.proofs.checks.check.Goals as goal
 

@@ -7,4 +7,4 @@ use Rattle.replay_check.proofs.lines.begins_with.Goals as goal
 pub returns : goal.returns
 returns c = λ yes.
     let t = starts_is Decides-eqb c.args.line.now c.args.front.now (starts_with eqb c.args.line.now c.args.front.now) refl in
-    t.0 (sym c.starts_with.ensures ∙ yes)
+    t.0 (sym c.starts_with.ensures.value ∙ yes)

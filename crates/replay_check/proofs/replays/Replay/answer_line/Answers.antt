@@ -1,6 +1,5 @@
-use Rattle.std.proofs.Common.{◌≡◌, ℕ, ◌+◌, ◌<◌, ◌++◌, List, get_or, length, None, refl, sym, ap, ◌∙◌, subst, arith}
+use Rattle.std.proofs.Common.{◌≡◌, ℕ, ◌+◌, ◌++◌, List, get_or, set, length, None, refl, sym, ap, ◌∙◌, subst, arith}
 use Rattle.std.specs.Prelude.{IsTrue, drop}
-use Rattle.kern_ids.specs.declared.entries.Entry.{Entry}
 use Rattle.kernel_model.specs.Histories.{fits}
 use Rattle.kernel_model.specs.System.{System}
 use Rattle.line_text.specs.Cut.{line_of}
@@ -36,11 +35,11 @@ returns-then-ends_with_reply-clause-replayed c =
       made who call expected,
       record { words = line; text = record { who = next.thread; call = next.line; reply = told.0 } },
       λ es stands.
-          line-right s es r _ who call expected none next c.in_ok-expected.ensures.reply c.call.ensures.boot c.in_ok-expected.ensures.entry refl refl (subst (StandsFor s es) (sym c.self.view_is) stands),
+          line-right s es r _ who call expected none next c.in_ok-expected.ensures.reply c.call.ensures.boot c.in_ok-expected.ensures.entry (ap (λ (n : ℕ). set inside.made n (get_or inside.made n 0 + 1)) c.get.ensures.value) refl (subst (StandsFor s es) (sym c.self.view_is) stands),
     )
 
-pub returns-else-ends_with_reply-clause-replayed : goal.returns-else-ends_with_reply-clause-replayed
-returns-else-ends_with_reply-clause-replayed c =
+pub returns-clause-replayed : goal.returns-clause-replayed
+returns-clause-replayed c =
     let s = c.args.scenario.now in
     let who = c.args.who in
     let call = c.args.call.now in
@@ -69,5 +68,5 @@ overflow_add-self c =
     let r : ReplayView = record { boot = inside.kernel.boot; history = inside.kernel.history; made = inside.made; fault = inside.fault } in
     let held : StandsFor s es r = subst (StandsFor s es) (sym c.self.view_is) c.requires.stands.for_them in
     let none : r.fault ≡ None = ap (λ (v : ReplayView). v.fault) c.self.view_is ∙ c.requires.sound in
-    let count : get_or inside.made who 0 ≡ length (of_thread who es) = held.made none who c.requires.next.thread in
+    let count : get_or inside.made c.get.result 0 ≡ length (of_thread who es) = ap (λ (n : ℕ). get_or inside.made n 0) c.get.ensures.value ∙ held.made none who c.requires.next.thread in
     omega (arith, length-of_thread who es, c.requires.stands.few)

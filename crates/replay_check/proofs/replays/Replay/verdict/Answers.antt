@@ -1,7 +1,5 @@
 use Rattle.std.proofs.Common.{◌≡◌, ◌≤◌, length, None, sym, ap, ◌∙◌, subst, arith}
 use Rattle.replay_check.specs.Replays.{ReplayView, StandsFor, first_unspent}
-use Rattle.replay_check.specs.Verdicts.{verdict_of}
-use Rattle.replay_check.specs.declared.verdicts.Verdict.TheVariants.{Legal}
 use Rattle.replay_check.proofs.Begun.{parts-legal}
 use Rattle.replay_check.proofs.Standing.{first_unspent-all, verdict-fault, verdict-end}
 use Rattle.replay_check.proofs.replays.Replay.verdict.Goals as goal
