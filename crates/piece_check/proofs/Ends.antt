@@ -1,7 +1,6 @@
 -- How a check ends, from how its feed and its replay do.
-use Rattle.std.proofs.Common.{◌≡◌, ℕ, List, length, Result, Ok, Err, refl, sym, ap, ◌∙◌, subst}
+use Rattle.std.proofs.Common.{◌≡◌, ℕ, List, Result, Ok, Err, refl, sym, ap, ◌∙◌, subst}
 use Rattle.kern_ids.specs.declared.entries.Entry.{Entry}
-use Rattle.kern_ids.specs.declared.faults.Why.{Why}
 use Rattle.kernel_model.specs.Scenario.{Plan}
 use Rattle.history_reading.specs.Histories.{history_of}
 use Rattle.history_feed.specs.declared.expected.Expected.{Expected}

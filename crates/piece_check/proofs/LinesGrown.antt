@@ -1,6 +1,5 @@
 -- A check that takes a line by its text.
-use Rattle.std.proofs.Common.{◌≡◌, ℕ, ◌+◌, ◌<◌, ◌≤◌, ◌^◌, Bool, true, leb, eqb, List, [], ◌∷◌, ◌++◌, length, take, Option, Some, None, Result, Ok, Err, refl, sym, ap, ◌∙◌, arith, subst}
-use Rattle.std.specs.Prelude.{codes}
+use Rattle.std.proofs.Common.{◌≡◌, ℕ, ◌+◌, ◌≤◌, true, leb, List, [], ◌∷◌, ◌++◌, length, take, Option, Some, None, Result, Ok, Err, refl, sym, ap, ◌∙◌, arith, subst}
 use Rattle.std.specs.List.{list_all}
 use Rattle.std.specs.Char.{is_ascii_digit}
 use Rattle.std.specs.Fmt.{decimal}
@@ -13,9 +12,10 @@ use Rattle.line_text.proofs.NumberLemmas.{own}
 use Rattle.history_reading.specs.Entries.{IsLineOf}
 use Rattle.history_reading.specs.Histories.{line_says}
 use Rattle.history_reading.proofs.HistoryLaws.{says_takes}
+use Rattle.history_feed.specs.declared.expected.Expected.{Expected}
 use Rattle.history_feed.specs.declared.expected.Expected.TheVariants as next
 use Rattle.history_feed.specs.declared.feed.HistoryFeed.{HistoryFeed}
-use Rattle.history_feed.specs.Left.{Fault, Place, said_entry, said_of, moved, left_by, rest_behind}
+use Rattle.history_feed.specs.Left.{Place, said_entry, said_of, moved, left_by, rest_behind}
 use Rattle.history_feed.specs.Feeds as feeds
 use Rattle.history_feed.specs.Feeds.{Keeps, IsNextLine}
 use Rattle.history_feed.proofs.FeedLaws.{at-place, taken-line, no-feed}
@@ -32,12 +32,12 @@ use Rattle.piece_check.proofs.Grown.{ReplaysAt, place_is, not_both}
 -- ---- a line that begins with a number is not the closing one
 
 not-done : (ds rest xs : List ℕ) → list_all is_ascii_digit ds ≡ true → ds ++ 32 ∷ rest ≡ 100 ∷ xs → ⊥
-not-done [] rest xs all e = let no : 32 ≡ 100 = cc in absurd (omega (arith, no))
+not-done [] rest xs all e = let no : ◌≡◌ {A = ℕ} 32 100 = cc in absurd (omega (arith, no))
 not-done (d ∷ ds) rest xs all e =
     let p = and_parts (is_ascii_digit d) (list_all is_ascii_digit ds) all in
     let r = and_parts (leb 48 d) (leb d 57) p.0 in
     let high : d ≤ 57 = leb-true _ _ r.1 in
-    let same : d ≡ 100 = cc in
+    let same : ◌≡◌ {A = ℕ} d 100 = cc in
     absurd (omega (arith, high, same))
 
 closing-not : (count : ℕ) (line : List ℕ) → BeginsWithNumber line → line_says count line ≡ Ok None → ⊥
@@ -68,11 +68,11 @@ said-replays s next p line (Ok (Some e)) is b more k same =
 said-replays s next p line (Ok None) is b more k same = absurd (closing-not (length p.entries) line b is)
 said-replays s next p line (Err d) is b more k same = absurd (not_both k (p.line, d) same)
 
-pub wrong-grown : (s t : Plan) (old new : HistoryFeed) (r next : ReplayView) (n taken : ℕ) (text piece line : List ℕ) → IsNextLine old piece line → taken ≡ length line + 1 → BeginsWithNumber line
-    → ((es : List Entry) (e : Entry) → IsLineOf line e → replays.StandsFor t es r → replays.StandsFor t (es ++ e ∷ []) next)
+pub wrong-grown : (s t : Plan) (old new : HistoryFeed) (r later : ReplayView) (n taken : ℕ) (text piece line : List ℕ) → IsNextLine old piece line → taken ≡ length line + 1 → BeginsWithNumber line
+    → ((es : List Entry) (e : Entry) → IsLineOf line e → replays.StandsFor t es r → replays.StandsFor t (es ++ e ∷ []) later)
     → feeds.first_line_of new ≡ feeds.first_line_of old → (feeds.StandsFor old text → feeds.StandsFor new (text ++ take taken piece))
-    → StandsFor s n text (parts t old r) → StandsFor s n (text ++ take taken piece) (parts t new next)
-wrong-grown s t old new r next n taken text piece line is long b more first feed h =
+    → StandsFor s n text (parts t old r) → StandsFor s n (text ++ take taken piece) (parts t new later)
+wrong-grown s t old new r later n taken text piece line is long b more first feed h =
     let at = next-place s t old r n text piece line is h in
     let p = at.0 in
     let none : rest_behind text ≡ [] = kept-empty old.rest (rest_behind text) at.2.kept is.empty in
@@ -81,12 +81,12 @@ wrong-grown s t old new r next n taken text piece line is long b more first feed
     let left : left_by n (text ++ take taken piece) ≡ moved p (said_entry (line_says (length p.entries) line)) =
     ap (λ (bs : List ℕ). left_by n (text ++ bs)) bytes ∙ line-place n text line p (no-feed piece line is.behind is.cut) at.1
     ∙ ap (λ (rest : List ℕ). moved p (said_of p.next (length p.entries) (rest ++ line))) none
-    ∙ ap (λ (x : Rattle.history_feed.specs.declared.expected.Expected.Expected). moved p (said_of x (length p.entries) line)) expects in
-    let stands : (e : Entry) → IsLineOf line e → replays.StandsFor s (p.entries ++ e ∷ []) next = λ e of.
-        subst (λ (u : Plan). replays.StandsFor u (p.entries ++ e ∷ []) next) h.scenario (more p.entries e of (subst (λ (u : Plan). replays.StandsFor u p.entries r) (sym h.scenario) (h.replay p at.1))) in
+    ∙ ap (λ (x : Expected). moved p (said_of x (length p.entries) line)) expects in
+    let stands : (e : Entry) → IsLineOf line e → replays.StandsFor s (p.entries ++ e ∷ []) later = λ e of.
+        subst (λ (u : Plan). replays.StandsFor u (p.entries ++ e ∷ []) later) h.scenario (more p.entries e of (subst (λ (u : Plan). replays.StandsFor u p.entries r) (sym h.scenario) (h.replay p at.1))) in
     record {
       scenario = h.scenario;
       first = first ∙ h.first;
       feed = feed h.feed;
-      replay = subst (ReplaysAt s next) (sym left) (said-replays s next p line (line_says (length p.entries) line) refl b stands);
+      replay = subst (ReplaysAt s later) (sym left) (said-replays s later p line (line_says (length p.entries) line) refl b stands);
     }
