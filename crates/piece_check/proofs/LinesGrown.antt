@@ -83,7 +83,7 @@ wrong-grown s t old new r later n taken text piece line is long b more first fee
     ∙ ap (λ (rest : List ℕ). moved p (said_of p.next (length p.entries) (rest ++ line))) none
     ∙ ap (λ (x : Expected). moved p (said_of x (length p.entries) line)) expects in
     let stands : (e : Entry) → IsLineOf line e → replays.StandsFor s (p.entries ++ e ∷ []) later = λ e of.
-        subst (λ (u : Plan). replays.StandsFor u (p.entries ++ e ∷ []) later) h.scenario (more p.entries e of (subst (λ (u : Plan). replays.StandsFor u p.entries r) (sym h.scenario) (h.replay p at.1))) in
+    subst (λ (u : Plan). replays.StandsFor u (p.entries ++ e ∷ []) later) h.scenario (more p.entries e of (subst (λ (u : Plan). replays.StandsFor u p.entries r) (sym h.scenario) (h.replay p at.1))) in
     record {
       scenario = h.scenario;
       first = first ∙ h.first;

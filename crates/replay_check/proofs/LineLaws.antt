@@ -76,8 +76,8 @@ line-wrong s es e r next who call expected line rest place none due begins answe
     let right : is_call_at s who call (get_or r.made who 0) ≡ true = due.next in
     let given : expected ≡ answer s.boot (reverse es) who call = answered ∙ ap₂ (λ (b : System) (h : List Entry). answer b (reverse h) who call) stands.boot history in
     let wrong : same_reply e.reply expected ≡ false = false_from_ne_true (same_reply e.reply expected) (λ yes.
-        let equal : e.reply ≡ expected = same_reply-true e.reply expected yes in
-        differs (subst HasReply equal is.text.reply) (is.words ∙ ap (λ (x : Entry). line_of (entry_words x)) entry ∙ made-line who call e.reply ∙ ap (λ (x : Reply). front_text who call ++ line_of (reply_words x)) equal)) in
+    let equal : e.reply ≡ expected = same_reply-true e.reply expected yes in
+    differs (subst HasReply equal is.text.reply) (is.words ∙ ap (λ (x : Entry). line_of (entry_words x)) entry ∙ made-line who call e.reply ∙ ap (λ (x : Reply). front_text who call ++ line_of (reply_words x)) equal)) in
     subst (λ (x : Entry). StandsFor s (es ++ x ∷ []) next) (sym entry)
     (stands-wrong_reply s es (made who call e.reply) r next (get_or r.made who 0) place expected stands none count (here ∙ ap length history) right given wrong boot same fault)
 

@@ -29,7 +29,9 @@ fn has_line(call: &Call) -> bool
     let sound = match call {
         Call::Write { bytes, .. } => !bytes.as_slice().is_empty(),
         Call::SetLimits {
-            active, inactive, ..
+            active,
+            inactive,
+            ..
         } => active.pages <= 65_536 && inactive.pages <= 65_536,
         _ => true,
     };
@@ -74,13 +76,7 @@ pub(crate) fn next_call<'a>(
         return None;
     }
     match scenario.script_call(who, made[thread]) {
-        Some(call) => {
-            if has_line(call) {
-                Some(call)
-            } else {
-                None
-            }
-        }
+        Some(call) => { if has_line(call) { Some(call) } else { None } }
         None => None,
     }
 }

@@ -153,11 +153,7 @@ impl Replay {
 
     /// Takes the entry whose line this is, without its line feed, and reads no entry: the line of the entry that is due is
     /// put together and compared with it. Without memory it has taken nothing.
-    pub fn feed_line(
-        &mut self,
-        scenario: &Scenario,
-        line: &[u8],
-    ) -> Result<LineReplay, NoMemory>
+    pub fn feed_line(&mut self, scenario: &Scenario, line: &[u8]) -> Result<LineReplay, NoMemory>
         requires { Stands scenario.now self.old }
         ensures replayed { IfOk result (λ replayed. IsReplayed replayed scenario.now line.now self.old self.new) }
         ensures unchanged { OnErr result (self.new ≡ self.old) }
