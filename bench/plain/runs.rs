@@ -156,6 +156,9 @@ fn verdict<'a>(scenario: &'a Scenario, history: &str, kernel: &mut Kernel<'a>, m
 /// What is told of a legal history: `legal`, what stands at its end, or why the entry of this number was answered so.
 fn judge(name: &str, number: usize, scenario: &Scenario, history: &str) -> Vec<u8> {
     let mut kernel = Kernel::new(&scenario.boot);
+    if name == "check" {
+        return verdict(scenario, history, &mut kernel, |_| ()).into_bytes();
+    }
     let mut entries = Vec::new();
     let verdict = verdict(scenario, history, &mut kernel, |entry| entries.push(*entry));
     if verdict != "legal\n" {
@@ -171,7 +174,7 @@ fn judge(name: &str, number: usize, scenario: &Scenario, history: &str) -> Vec<u
             }
             why(&before, &entries, number)
         }
-        _ => verdict.into_bytes(),
+        _ => panic!("no such command"),
     }
 }
 
