@@ -1,6 +1,6 @@
 //! A reader of a history's text that is given in pieces.
 
-ghost use Rattle.std.specs.Prelude.{◌≡◌, ◌<◌, ◌≤◌, ◌+◌, ◌++◌, ◌^◌, ℕ, List, [], length, take, None, Some, IfSome};
+ghost use Rattle.std.specs.Prelude.{◌≡◌, ◌<◌, ◌≤◌, ◌+◌, ◌++◌, ◌^◌, ℕ, List, [], length, take, None, Some, IfSome, MatchOption};
 ghost use Rattle.line_text.specs.Cut.{lines_of};
 ghost use Rattle.kern_ids.specs.declared.entries.Entry.{Entry as AnEntry};
 ghost use Rattle.history_reading.specs.Entries.{HasText, IsLineOf};
@@ -198,9 +198,9 @@ impl HistoryFeed {
     }
 
     /// The line that the piece begins with, without its line feed, where the piece ends it, no byte of it came before, and
-    /// an entry may stand in its place.
+    /// an entry may stand in its place. None where there is no such line.
     pub fn next_line<'a>(&self, piece: &'a [u8]) -> Option<&'a [u8]>
-        ensures { IfSome result (λ line. IsNextLine self.now piece.now line.now) }
+        ensures { MatchOption result ((line : List ℕ) → IsNextLine self.now piece.now line → ⊥) (λ line. IsNextLine self.now piece.now line.now) }
     {
         if self.fault.is_some() {
             return None;

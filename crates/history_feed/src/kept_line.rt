@@ -8,11 +8,11 @@ ghost use Rattle.history_reading.specs.Entries.{HasText};
 ghost use Rattle.history_reading.specs.Histories.{line_says};
 ghost use Rattle.history_feed.specs.Kept.{kept_of};
 
-use crate::held::Held;
 use crate::long_line::long_fault;
 use history_reading::take_line;
 use kern_ids::entries::Entry;
 use kern_ids::faults::Why;
+use kern_ids::lines::LineBuf;
 use line_text::is_word;
 
 const MOST: usize = 1100;
@@ -21,7 +21,7 @@ const MOST: usize = 1100;
 /// and whether there are digits alone.
 #[derive(Drop)]
 pub struct KeptLine {
-    pub head: Held,
+    pub head: LineBuf,
     pub len: usize,
     pub spaced: bool,
     pub digits: bool,
@@ -60,7 +60,7 @@ impl KeptLine {
         ensures { result ≡ kept_of [] }
     {
         KeptLine {
-            head: Held::new(),
+            head: LineBuf::new(),
             len: 0,
             spaced: false,
             digits: true,
@@ -85,7 +85,7 @@ impl KeptLine {
         ensures value { (line : List ℕ) → self.old ≡ kept_of line → self.new ≡ kept_of (line ++ part.now) }
         ensures len { self.new.len ≡ self.old.len + length part.now }
     {
-        let room = MOST - self.head.len();
+        let room = MOST - self.head.as_slice().len();
         let (front, back) = part.split_at(room.min(part.len()));
         self.head.push(front);
         self.len += part.len();

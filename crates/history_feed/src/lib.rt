@@ -4,7 +4,6 @@
 
 mod expected;
 mod feed;
-mod held;
 mod kept_line;
 mod long_line;
 #[cfg(test)]

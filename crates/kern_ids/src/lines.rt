@@ -144,6 +144,13 @@ impl LineBuf {
         }
     }
 
+    /// Takes all bytes away.
+    pub fn clear(&mut self)
+        ensures { self.new ≡ [] }
+    {
+        self.len = 0;
+    }
+
     /// Appends bytes.
     pub fn push(&mut self, bytes: &[u8])
         requires { length self.old + length bytes.now ≤ 1100 }

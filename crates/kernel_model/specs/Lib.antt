@@ -17,5 +17,6 @@ pub mod Victims
 pub mod Answers
 pub mod Histories
 pub mod Scenario
+pub mod ScriptCalls
 pub mod Turns
 pub mod Laws

@@ -4,7 +4,9 @@
 #![tactic(auto)]
 
 pub mod boot;
+mod call_head;
 pub mod events;
 pub mod law;
 pub mod place;
 pub mod scenario;
+pub mod script_call;

@@ -6,6 +6,7 @@ ghost use Rattle.kernel_model.specs.Histories as histories;
 ghost use Rattle.kernel_model.specs.Scenario.{IsValid, IsValidForm, FitsForm, call_count, script, two};
 
 use crate::boot::{Boot, ObjBoot, Params, Side, TaskBoot};
+use crate::script_call::ScriptCall;
 use kern_ids::calls::Call;
 use kern_ids::entries::NoMemory;
 use kern_ids::ids::ThreadId;
@@ -23,7 +24,8 @@ pub enum Form {
 /// The calls of a thread.
 #[derive(Drop)]
 pub struct Script {
-    calls: Vec<Call>,
+    alloc: Global,
+    calls: Vec<ScriptCall>,
 }
 
 impl Model for Script {
@@ -40,12 +42,13 @@ impl Script {
         ensures { result ≡ [] }
     {
         Script {
+            alloc,
             calls: Vec::new(alloc),
         }
     }
 
     /// The calls, in order.
-    pub fn calls(&self) -> &[Call]
+    pub fn calls(&self) -> &[ScriptCall]
         ensures { result.now ≡ self.now }
     {
         &self.calls
@@ -57,7 +60,7 @@ impl Script {
         self.calls.len()
     }
 
-    fn get(&self, i: usize) -> Option<&Call>
+    fn get(&self, i: usize) -> Option<&ScriptCall>
         ensures { option_copied result ≡ slice_get self.now i }
     {
         self.calls.get(i)
@@ -67,8 +70,9 @@ impl Script {
         ensures ok { OnOk result (self.new ≡ self.old ++ call ∷ []) }
         ensures err { OnErr result (self.new ≡ self.old) }
     {
+        let kept = ScriptCall::new(self.alloc, &call)?;
         self.calls.reserve(1).map_err(|_| NoMemory)?;
-        self.calls.push_reserved(call);
+        self.calls.push_reserved(kept);
         Ok(())
     }
 }
@@ -151,7 +155,7 @@ impl Scenario {
     }
 
     /// Call i of a thread, if it has so many.
-    pub fn script_call(&self, who: ThreadId, i: usize) -> Option<&Call>
+    pub fn script_call(&self, who: ThreadId, i: usize) -> Option<&ScriptCall>
         ensures { option_copied result ≡ slice_get (script self.now who) i }
     {
         match self.scripts.get(who.get() as usize) {

@@ -1,5 +1,5 @@
 -- What a check of pieces is seen as, what it stands for, and how it ends.
-use Rattle.std.specs.Prelude.{◌≡◌, ℕ, List, Result, Ok, Err}
+use Rattle.std.specs.Prelude.{◌≡◌, ℕ, ◌+◌, List, ◌++◌, Result, Ok, Err}
 use Rattle.kern_ids.specs.declared.entries.Entry.{Entry}
 use Rattle.kernel_model.specs.Scenario.{Plan}
 use Rattle.history_feed.specs.declared.feed.HistoryFeed.{HistoryFeed}
@@ -37,6 +37,14 @@ pub record Stands (c : CheckView) : Type 0 where
 -- there was a fault, or the number of the line stays within 32 bits whatever so many bytes are
 abbrev pub HasRoom : CheckView → ℕ → Type 0
 HasRoom c more = feeds.HasRoom c.feed more
+
+-- where there was room for so many bytes and more, there is room for the others
+abbrev pub KeepsRoom : CheckView → ℕ → CheckView → Type 0
+KeepsRoom old taken new = (more : ℕ) → HasRoom old (taken + more) → HasRoom new more
+
+-- whatever scenario and bytes it stood for, it stands for that scenario, and those bytes with these behind them
+abbrev pub GrowsBy : CheckView → List ℕ → CheckView → Type 0
+GrowsBy old bytes new = (s : Plan) (n : ℕ) (text : List ℕ) → StandsFor s n text old → StandsFor s n (text ++ bytes) new
 
 -- the verdict on the history that was read, or the line of the first fault and why it is refused
 abbrev pub end_of : Plan → Result (List Entry) Fault → PieceEnd

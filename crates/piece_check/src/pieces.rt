@@ -4,11 +4,12 @@ ghost use Rattle.std.specs.Prelude.{◌≡◌, ◌<◌, ◌≤◌, ◌+◌, ◌+
 ghost use Rattle.kernel_model.specs.Scenario.{Plan};
 ghost use Rattle.history_feed.specs.Feeds.{IsNextLine};
 ghost use Rattle.history_reading.specs.Histories.{history_of};
-ghost use Rattle.piece_check.specs.Pieces.{HasRoom, Stands, StandsFor, end_of, parts};
+ghost use Rattle.piece_check.specs.Pieces.{GrowsBy, HasRoom, KeepsRoom, Stands, StandsFor, end_of, parts};
 
 use crate::end::PieceEnd;
 use history_feed::{Fed, HistoryFeed};
 use kern_ids::entries::NoMemory;
+use kern_ids::lines::LineBuf;
 use kernel_model::scenario::Scenario;
 use replay_check::{LineReplay, Replay};
 use std::alloc::Global;
@@ -20,6 +21,8 @@ pub struct PieceCheck {
     scenario: Scenario,
     feed: HistoryFeed,
     replay: Replay,
+    /// Room to put a line together in.
+    text: LineBuf,
 }
 
 impl Model for PieceCheck {
@@ -43,8 +46,8 @@ fn read_some(
     requires room { HasRoom (parts scenario.now feed.old replay.old) (length piece.now) }
     ensures within { IfOk result (λ taken. taken ≤ length piece.now) }
     ensures some { IfOk result (λ taken. 0 < length piece.now → 0 < taken) }
-    ensures room { IfOk result (λ taken. (more : ℕ) → HasRoom (parts scenario.now feed.old replay.old) (taken + more) → HasRoom (parts scenario.now feed.new replay.new) more) }
-    ensures stands { IfOk result (λ taken. (s : Plan) (n : ℕ) (text : List ℕ) → StandsFor s n text (parts scenario.now feed.old replay.old) → StandsFor s n (text ++ take taken piece.now) (parts scenario.now feed.new replay.new)) }
+    ensures room { IfOk result (λ taken. KeepsRoom (parts scenario.now feed.old replay.old) taken (parts scenario.now feed.new replay.new)) }
+    ensures stands { IfOk result (λ taken. GrowsBy (parts scenario.now feed.old replay.old) (take taken piece.now) (parts scenario.now feed.new replay.new)) }
 {
     let Fed { taken, entry } = feed.feed(piece);
     match entry {
@@ -61,6 +64,7 @@ fn take_line(
     scenario: &Scenario,
     feed: &mut HistoryFeed,
     replay: &mut Replay,
+    text: &mut LineBuf,
     piece: &[u8],
     line: &[u8],
 ) -> Result<usize, NoMemory>
@@ -69,10 +73,10 @@ fn take_line(
     requires next { IsNextLine feed.old piece.now line.now }
     ensures within { IfOk result (λ taken. taken ≤ length piece.now) }
     ensures some { IfOk result (λ taken. 0 < length piece.now → 0 < taken) }
-    ensures room { IfOk result (λ taken. (more : ℕ) → HasRoom (parts scenario.now feed.old replay.old) (taken + more) → HasRoom (parts scenario.now feed.new replay.new) more) }
-    ensures stands { IfOk result (λ taken. (s : Plan) (n : ℕ) (text : List ℕ) → StandsFor s n text (parts scenario.now feed.old replay.old) → StandsFor s n (text ++ take taken piece.now) (parts scenario.now feed.new replay.new)) }
+    ensures room { IfOk result (λ taken. KeepsRoom (parts scenario.now feed.old replay.old) taken (parts scenario.now feed.new replay.new)) }
+    ensures stands { IfOk result (λ taken. GrowsBy (parts scenario.now feed.old replay.old) (take taken piece.now) (parts scenario.now feed.new replay.new)) }
 {
-    match replay.feed_line(scenario, line)? {
+    match replay.feed_line(scenario, line, text)? {
         LineReplay::Right => Ok(feed.pass(piece, line)),
         // Its entry, if it has one, was replayed.
         LineReplay::Wrong => {
@@ -88,17 +92,18 @@ fn take_some(
     scenario: &Scenario,
     feed: &mut HistoryFeed,
     replay: &mut Replay,
+    text: &mut LineBuf,
     piece: &[u8],
 ) -> Result<usize, NoMemory>
     requires stands { Stands (parts scenario.now feed.old replay.old) }
     requires room { HasRoom (parts scenario.now feed.old replay.old) (length piece.now) }
     ensures within { IfOk result (λ taken. taken ≤ length piece.now) }
     ensures some { IfOk result (λ taken. 0 < length piece.now → 0 < taken) }
-    ensures room { IfOk result (λ taken. (more : ℕ) → HasRoom (parts scenario.now feed.old replay.old) (taken + more) → HasRoom (parts scenario.now feed.new replay.new) more) }
-    ensures stands { IfOk result (λ taken. (s : Plan) (n : ℕ) (text : List ℕ) → StandsFor s n text (parts scenario.now feed.old replay.old) → StandsFor s n (text ++ take taken piece.now) (parts scenario.now feed.new replay.new)) }
+    ensures room { IfOk result (λ taken. KeepsRoom (parts scenario.now feed.old replay.old) taken (parts scenario.now feed.new replay.new)) }
+    ensures stands { IfOk result (λ taken. GrowsBy (parts scenario.now feed.old replay.old) (take taken piece.now) (parts scenario.now feed.new replay.new)) }
 {
     match feed.next_line(piece) {
-        Some(line) => take_line(scenario, feed, replay, piece, line),
+        Some(line) => take_line(scenario, feed, replay, text, piece, line),
         None => read_some(scenario, feed, replay, piece),
     }
 }
@@ -108,16 +113,17 @@ fn take_all(
     scenario: &Scenario,
     feed: &mut HistoryFeed,
     replay: &mut Replay,
+    text: &mut LineBuf,
     piece: &[u8],
 ) -> Result<(), NoMemory>
     requires stands { Stands (parts scenario.now feed.old replay.old) }
     requires room { HasRoom (parts scenario.now feed.old replay.old) (length piece.now) }
-    ensures room { OnOk result ((more : ℕ) → HasRoom (parts scenario.now feed.old replay.old) (length piece.now + more) → HasRoom (parts scenario.now feed.new replay.new) more) }
-    ensures stands { OnOk result ((s : Plan) (n : ℕ) (text : List ℕ) → StandsFor s n text (parts scenario.now feed.old replay.old) → StandsFor s n (text ++ piece.now) (parts scenario.now feed.new replay.new)) }
+    ensures room { OnOk result (KeepsRoom (parts scenario.now feed.old replay.old) (length piece.now) (parts scenario.now feed.new replay.new)) }
+    ensures stands { OnOk result (GrowsBy (parts scenario.now feed.old replay.old) piece.now (parts scenario.now feed.new replay.new)) }
 {
     let mut at = 0;
     'bytes: while at < piece.len() {
-        let taken = take_some(scenario, feed, replay, &piece[at..])?;
+        let taken = take_some(scenario, feed, replay, text, &piece[at..])?;
         at += taken;
     }
     Ok(())
@@ -133,31 +139,35 @@ impl PieceCheck {
     {
         let replay = Replay::new(alloc, &scenario)?;
         let feed = HistoryFeed::new(first_line);
+        let text = LineBuf::new();
         Ok(PieceCheck {
             scenario,
             feed,
             replay,
+            text,
         })
     }
 
     /// Takes a piece more. Without memory the check is given up.
     pub fn feed(self, piece: &[u8]) -> Result<PieceCheck, NoMemory>
         requires { HasRoom self (length piece.now) }
-        // Whatever scenario and bytes it stood for, it stands for that scenario, and those bytes with the piece behind them.
-        ensures stands { IfOk result (λ check. (s : Plan) (n : ℕ) (text : List ℕ) → StandsFor s n text self → StandsFor s n (text ++ piece.now) check) }
+        // It stands for the bytes from before with the piece behind them.
+        ensures stands { IfOk result (λ check. GrowsBy self piece.now check) }
         // Where there was room for more bytes, there still is.
-        ensures room { IfOk result (λ check. (more : ℕ) → HasRoom self (length piece.now + more) → HasRoom check more) }
+        ensures room { IfOk result (λ check. KeepsRoom self (length piece.now) check) }
     {
         let PieceCheck {
             scenario,
             mut feed,
             mut replay,
+            mut text,
         } = self;
-        take_all(&scenario, &mut feed, &mut replay, piece)?;
+        take_all(&scenario, &mut feed, &mut replay, &mut text, piece)?;
         Ok(PieceCheck {
             scenario,
             feed,
             replay,
+            text,
         })
     }
 
@@ -169,6 +179,7 @@ impl PieceCheck {
             scenario,
             feed,
             replay,
+            text: _,
         } = self;
         match feed.finish() {
             Ok(_) => PieceEnd::Done(replay.verdict(&scenario)),

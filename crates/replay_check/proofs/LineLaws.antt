@@ -10,13 +10,14 @@ use Rattle.kern_ids.specs.declared.entries.Entry.{Entry}
 use Rattle.kernel_model.specs.System.{System}
 use Rattle.kernel_model.specs.Answers.{answer}
 use Rattle.kernel_model.specs.Scenario.{Plan}
-use Rattle.line_text.specs.Cut.{line_of}
+use Rattle.line_text.specs.Cut.{Word, line_of, words_of}
 use Rattle.line_text.specs.Calls.{call_words, HasLine}
 use Rattle.line_text.proofs.GrammarLemmas.{ok_is}
+use Rattle.line_text.proofs.CutLaws.{words_again}
 use Rattle.history_text.specs.Entries.{entry_words, reply_words}
 use Rattle.history_reading.specs.Entries.{Parts, sign_cut, entry_of, HasText, IsLineOf}
 use Rattle.history_reading.specs.Replies.{HasReply}
-use Rattle.history_reading.proofs.EntryLaws.{front_words, entry_line, entry_again}
+use Rattle.history_reading.proofs.EntryLaws.{front_words, entry_line, entry_again, entry_clean}
 use Rattle.history_reading.proofs.Signs.{decimal_unsigned, call_unsigned, line_unsigned, sign_again}
 use Rattle.replay_check.specs.declared.verdicts.Verdict.TheVariants.{WrongReply}
 use Rattle.replay_check.specs.Same.{same_reply}
@@ -62,16 +63,26 @@ front-number who call line rest small is =
     let words = call_words call in
     (who, line_of words ++ 32 ∷ 61 ∷ 32 ∷ rest, omega (arith, small), is ∙ front-joined who call rest ∙ append_assoc (decimal who) (32 ∷ line_of words) (32 ∷ 61 ∷ 32 ∷ rest))
 
+-- the first word of an entry's line is its thread
+pub line-words : (line : List ℕ) (e : Entry) → IsLineOf line e → (ws : List Word) × (words_of line ≡ decimal e.who ∷ ws)
+line-words line e is =
+    let clean = entry_clean e is.text in
+    (call_words e.call ++ codes "=" ∷ reply_words e.reply, ap words_of is.words ∙ words_again (decimal e.who) (call_words e.call ++ codes "=" ∷ reply_words e.reply) clean.0 clean.1)
+
+-- an entry's line goes on as the line of its thread and call
+pub line-front : (line : List ℕ) (e : Entry) → IsLineOf line e → line ≡ front_text e.who e.call ++ line_of (reply_words e.reply)
+line-front line e is = is.words ∙ made-line e.who e.call e.reply
+
 -- ---- the replay
 
 -- its reply is another one
-pub line-wrong : (s : Plan) (es : List Entry) (e : Entry) (r next : ReplayView) (who : ℕ) (call : Call) (expected : Reply) (line rest : List ℕ) (place : ℕ) → r.fault ≡ None → IsNextCall s r.made who call
+pub line-wrong : (s : Plan) (es : List Entry) (e : Entry) (r next : ReplayView) (who : ℕ) (call : Call) (expected : Reply) (line rest : List ℕ) (place : ℕ) → r.fault ≡ None → IsNextCall s r.made who call → HasLine 64 256 call
     → line ≡ front_text who call ++ rest → expected ≡ answer r.boot (reverse r.history) who call → (HasReply expected → line ≡ front_text who call ++ line_of (reply_words expected) → ⊥)
     → place ≡ length r.history → next.boot ≡ r.boot → next.made ≡ r.made → next.fault ≡ Some (WrongReply place expected) → IsLineOf line e → StandsFor s es r → StandsFor s (es ++ e ∷ []) next
-line-wrong s es e r next who call expected line rest place none due begins answered differs here boot same fault is stands =
+line-wrong s es e r next who call expected line rest place none due has begins answered differs here boot same fault is stands =
     let history = stands.history none in
     let whole : line_of (entry_words e) ≡ front_text who call ++ rest = sym is.words ∙ begins in
-    let entry : e ≡ made who call e.reply = entry-is e who call rest is.text due.thread due.line whole in
+    let entry : e ≡ made who call e.reply = entry-is e who call rest is.text due.thread has whole in
     let count : get_or r.made who 0 ≡ length (of_thread who es) = stands.made none who due.thread in
     let right : is_call_at s who call (get_or r.made who 0) ≡ true = due.next in
     let given : expected ≡ answer s.boot (reverse es) who call = answered ∙ ap₂ (λ (b : System) (h : List Entry). answer b (reverse h) who call) stands.boot history in

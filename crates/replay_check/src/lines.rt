@@ -1,6 +1,9 @@
 //! The line of an entry, put together to be compared with a line of a text.
 
-ghost use Rattle.std.specs.Prelude.{◌≡◌, ◌≤◌, ◌++◌, [], length, drop, true, false, IfSome};
+ghost use Rattle.std.specs.Prelude.{◌≡◌, ◌≤◌, ◌<◌, ◌++◌, ◌∷◌, [], ℕ, List, length, drop, true, false, Some, IfSome, option_copied};
+ghost use Rattle.std.specs.Fmt.{decimal};
+ghost use Rattle.kern_ids.specs.declared.calls.Call.{Call as ACall};
+ghost use Rattle.line_text.specs.Cut.{Word, words_of};
 ghost use Rattle.line_text.specs.Calls.{HasLine};
 ghost use Rattle.history_reading.specs.Replies.{HasReply};
 ghost use Rattle.replay_check.specs.Lines.{IsNextCall, front_text};
@@ -11,10 +14,13 @@ use kern_ids::ids::ThreadId;
 use kern_ids::lines::LineBuf;
 use kern_ids::replies::Reply;
 use kernel_model::scenario::Scenario;
+use kernel_model::script_call::ScriptCall;
 use line_text::{Words, push_call, push_decimal};
 
 // The thread whose number a line begins with.
-pub(crate) fn thread_of(line: &[u8]) -> Option<ThreadId> {
+pub(crate) fn thread_of(line: &[u8]) -> Option<ThreadId>
+    ensures { (who : ℕ) (ws : List Word) → who < 32 → words_of line.now ≡ decimal who ∷ ws → result ≡ Some who }
+{
     let mut words = Words::new(line);
     match words.thread(32) {
         Ok(who) => Some(who),
@@ -23,22 +29,32 @@ pub(crate) fn thread_of(line: &[u8]) -> Option<ThreadId> {
 }
 
 // Whether a call has a line: its bytes are not none, and its limits are in range.
-fn has_line(call: &Call) -> bool
-    ensures { result ≡ true → HasLine 64 256 call.now }
+pub(crate) fn has_line(call: &Call) -> bool
+    ensures yes { result ≡ true → HasLine 64 256 call.now }
+    ensures no { result ≡ false → HasLine 64 256 call.now → ⊥ }
 {
-    let sound = match call {
-        Call::Write { bytes, .. } => !bytes.as_slice().is_empty(),
+    match call {
+        Call::Write { bytes, .. } => {
+            if bytes.as_slice().is_empty() {
+                return false;
+            }
+        }
         Call::SetLimits {
             active,
             inactive,
             ..
-        } => active.pages <= 65_536 && inactive.pages <= 65_536,
-        _ => true,
-    };
-    if sound {
-        call_has_line(call);
+        } => {
+            if 65_536 < active.pages {
+                return false;
+            }
+            if 65_536 < inactive.pages {
+                return false;
+            }
+        }
+        _ => (),
     }
-    sound
+    call_has_line(call);
+    true
 }
 
 // Whether a reply has words: its bytes are not none, and its page is in range.
@@ -63,20 +79,21 @@ fn has_reply(reply: &Reply) -> bool
     true
 }
 
-// The call that comes next in a thread's script, if it has a line. Each thread has made so many.
+// The call that comes next in a thread's script. Each thread has made so many.
 pub(crate) fn next_call<'a>(
     scenario: &'a Scenario,
     made: &[usize; 32],
     who: ThreadId,
-) -> Option<&'a Call>
-    ensures { IfSome result (λ call. IsNextCall scenario.now made.now who call.now) }
+) -> Option<&'a ScriptCall>
+    ensures next { IfSome result (λ call. IsNextCall scenario.now made.now who call.now) }
+    ensures only { (call : ACall) → IsNextCall scenario.now made.now who call → option_copied result ≡ Some call }
 {
     let thread = who.get() as usize;
     if scenario.scripts().len() <= thread {
         return None;
     }
     match scenario.script_call(who, made[thread]) {
-        Some(call) => { if has_line(call) { Some(call) } else { None } }
+        Some(call) => Some(call),
         None => None,
     }
 }
@@ -95,7 +112,8 @@ pub(crate) fn push_front(line: &mut LineBuf, who: ThreadId, call: &Call)
 
 // Whether a line begins with these bytes.
 pub(crate) fn begins_with(line: &[u8], front: &[u8]) -> bool
-    ensures { result ≡ true → line.now ≡ front.now ++ drop (length front.now) line.now }
+    ensures yes { result ≡ true → line.now ≡ front.now ++ drop (length front.now) line.now }
+    ensures no { result ≡ false → (rest : List ℕ) → line.now ≡ front.now ++ rest → ⊥ }
 {
     line.starts_with(front)
 }

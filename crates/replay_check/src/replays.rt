@@ -4,12 +4,13 @@ ghost use Rattle.std.specs.Prelude.{◌≡◌, ◌++◌, ◌∷◌, [], ◌^◌,
 ghost use Rattle.std.specs.Option.{option_map_or};
 ghost use Rattle.kern_ids.specs.declared.entries.Entry.{Entry};
 ghost use Rattle.kernel_model.specs.Histories.{fits};
+ghost use Rattle.line_text.specs.Calls.{HasLine};
 ghost use Rattle.replay_check.specs.Lines.{IsNextCall, IsReplayed, front_text};
 ghost use Rattle.replay_check.specs.Replays.{first_unspent, Stands, StandsFor};
 ghost use Rattle.replay_check.specs.Verdicts.{is_call_at, verdict_of};
 
 use crate::line_replay::LineReplay;
-use crate::lines::{begins_with, ends_with_reply, next_call, push_front, thread_of};
+use crate::lines::{begins_with, ends_with_reply, has_line, next_call, push_front, thread_of};
 use crate::same::{same_call, same_reply};
 use crate::verdicts::Verdict;
 use history_text::push_reply;
@@ -50,7 +51,7 @@ fn is_call_at(scenario: &Scenario, entry: &Entry, k: usize) -> bool
         return false;
     }
     match scenario.script_call(entry.who, k) {
-        Some(call) => same_call(&entry.call, call),
+        Some(call) => same_call(&entry.call, &call.get()),
         None => false,
     }
 }
@@ -133,6 +134,7 @@ impl Replay {
         requires stands { Stands scenario.now self.old }
         requires sound { self.old.fault ≡ None }
         requires next { IsNextCall scenario.now self.old.made who call.now }
+        requires has_line { HasLine 64 256 call.now }
         requires front { text.old ≡ front_text who call.now }
         requires room { length text.old ≤ 558 }
         requires begins { line.now ≡ text.old ++ drop (length text.old) line.now }
@@ -152,8 +154,13 @@ impl Replay {
     }
 
     /// Takes the entry whose line this is, without its line feed, and reads no entry: the line of the entry that is due is
-    /// put together and compared with it. Without memory it has taken nothing.
-    pub fn feed_line(&mut self, scenario: &Scenario, line: &[u8]) -> Result<LineReplay, NoMemory>
+    /// put together in `text`, whatever that held, and compared with it. Without memory it has taken nothing.
+    pub fn feed_line(
+        &mut self,
+        scenario: &Scenario,
+        line: &[u8],
+        text: &mut LineBuf,
+    ) -> Result<LineReplay, NoMemory>
         requires { Stands scenario.now self.old }
         ensures replayed { IfOk result (λ replayed. IsReplayed replayed scenario.now line.now self.old self.new) }
         ensures unchanged { OnErr result (self.new ≡ self.old) }
@@ -166,18 +173,22 @@ impl Replay {
             None => return Ok(LineReplay::Unread),
         };
         let call = match next_call(scenario, &self.made, who) {
-            Some(call) => call,
+            Some(kept) => kept.get(),
             None => return Ok(LineReplay::Unread),
         };
-        let mut text = LineBuf::new();
-        push_front(&mut text, who, call);
+        if !has_line(&call) {
+            return Ok(LineReplay::Unread);
+        }
+        text.clear();
+        push_front(text, who, &call);
         if !begins_with(line, text.as_slice()) {
             return Ok(LineReplay::Unread);
         }
-        self.answer_line(scenario, who, call, &mut text, line)
+        self.answer_line(scenario, who, &call, text, line)
     }
 
-    /// The kernel behind the entries before the first wrong one, or behind all of them.
+    /// The kernel that made the calls of the entries so far, up to the first wrong place. Where only the reply is wrong
+    /// there, it has made that place's call as well.
     pub fn kernel(&self) -> &ReplayKernel
         ensures boot { result.now.boot ≡ self.now.boot }
         ensures history { result.now.history ≡ self.now.history }

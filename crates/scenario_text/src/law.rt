@@ -14,6 +14,7 @@ ghost use Rattle.scenario_text.specs.Text.{scenario_text, HasText};
 use kern_ids::calls::Call;
 use kernel_model::boot::{Boot, TaskBoot};
 use kernel_model::scenario::Scenario;
+use kernel_model::script_call::ScriptCall;
 
 // Each task's band is one that a line can name.
 fn bands_have_words(tasks: &[TaskBoot])
@@ -57,12 +58,12 @@ fn call_has_line(boot: &Boot, call: &Call)
 }
 
 // The calls of a thread have lines.
-fn calls_have_lines(boot: &Boot, calls: &[Call])
+fn calls_have_lines(boot: &Boot, calls: &[ScriptCall])
     requires { All (λ call. IsTrue (names_fit boot.now call)) calls.now }
     ensures { All (HasLine (length boot.now.tasks) (length boot.now.objects)) calls.now }
 {
     for call in calls {
-        call_has_line(boot, call);
+        call_has_line(boot, &call.get());
     }
 }
 

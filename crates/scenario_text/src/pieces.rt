@@ -11,11 +11,11 @@ use crate::writing::{
     call_line, fixed_part, head_line, object_line, order_word, system_line, task_line, thread_line,
 };
 use edge::pieces::Pieces;
-use kern_ids::calls::Call;
 use kern_ids::ids::ThreadId;
 use kern_ids::lines::LineBuf;
 use kernel_model::boot::{ObjBoot, Side, TaskBoot};
 use kernel_model::scenario::{Scenario, Script};
+use kernel_model::script_call::ScriptCall;
 use std::marker::Model;
 
 /// The text of a scenario, seen as what is left of it. Takes no memory.
@@ -83,7 +83,7 @@ fn from_threads<'a>(
 }
 
 fn from_calls<'a>(
-    calls: &'a [Call],
+    calls: &'a [ScriptCall],
     order: &'a [ThreadId],
     sides: &'a [Side],
     scripts: &'a [Script],
@@ -96,7 +96,7 @@ fn from_calls<'a>(
 {
     match calls.split_first() {
         Some((call, calls)) => (
-            call_line(call),
+            call_line(&call.get()),
             Stage::Calls(calls, order, sides, scripts, n),
         ),
         None => from_threads(order, sides, scripts, n),

@@ -1,7 +1,7 @@
-use kern_ids::calls::Call;
 use kern_ids::ids::ThreadId;
 use kernel_model::boot::{ObjBoot, Side, TaskBoot};
 use kernel_model::scenario::{Scenario, Script};
+use kernel_model::script_call::ScriptCall;
 
 /// What of a scenario is still to be handed out. A number is that of the next thing of its kind.
 #[derive(Clone, Copy)]
@@ -17,7 +17,7 @@ pub enum Stage<'a> {
     /// The threads of these sides and scripts, and the order.
     Threads(&'a [ThreadId], &'a [Side], &'a [Script], usize),
     /// These calls, and then as above.
-    Calls(&'a [Call], &'a [ThreadId], &'a [Side], &'a [Script], usize),
+    Calls(&'a [ScriptCall], &'a [ThreadId], &'a [Side], &'a [Script], usize),
     /// These words of the order.
     Order(&'a [ThreadId]),
     /// The end line.

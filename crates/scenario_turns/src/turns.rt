@@ -2,10 +2,10 @@ ghost use Rattle.std.specs.Prelude.{◌≡◌, ◌≤◌, ◌<◌, ◌∷◌, []
 ghost use Rattle.kernel_model.specs.Turns.{turns, turns_from, rest_turns, next_call, after_turn};
 ghost use Rattle.scenario_turns.specs.Left.{calls_left, AreSpent};
 
-use kern_ids::calls::Call;
 use kern_ids::entries::NoMemory;
 use kern_ids::ids::ThreadId;
 use kernel_model::scenario::{Scenario, Script};
+use kernel_model::script_call::ScriptCall;
 use std::alloc::Global;
 use std::marker::Model;
 
@@ -14,7 +14,7 @@ use std::marker::Model;
 #[derive(Drop)]
 pub struct Turns<'a> {
     order: &'a [ThreadId],
-    scripts: Vec<&'a [Call]>,
+    scripts: Vec<&'a [ScriptCall]>,
     /// The scripts before this one are spent.
     from: usize,
 }
@@ -33,7 +33,7 @@ impl<'a> Model for Turns<'a> {
 }
 
 // The calls of each thread, all of them.
-fn all_calls<'a>(alloc: Global, scripts: &'a [Script]) -> Result<Vec<&'a [Call]>, NoMemory>
+fn all_calls<'a>(alloc: Global, scripts: &'a [Script]) -> Result<Vec<&'a [ScriptCall]>, NoMemory>
     ensures { IfOk result (λ v. calls_left v.items ≡ scripts.now) }
 {
     let mut calls = Vec::new(alloc);
@@ -62,13 +62,13 @@ impl<'a> Turns<'a> {
 }
 
 // Takes the next call of thread n, if it has one left.
-fn take_call<'a>(scripts: &mut Vec<&'a [Call]>, n: usize) -> Option<&'a Call>
+fn take_call<'a>(scripts: &mut Vec<&'a [ScriptCall]>, n: usize) -> Option<&'a ScriptCall>
     ensures taken { MatchOption result
         ((next_call (calls_left scripts.old.items) n ≡ None) × (scripts.new.items ≡ scripts.old.items))
         (λ call. (next_call (calls_left scripts.old.items) n ≡ Some call.now) × (calls_left scripts.new.items ≡ after_turn (calls_left scripts.old.items) n)) }
     ensures len { vec_len scripts.new ≡ vec_len scripts.old }
 {
-    let rest: &'a [Call] = match scripts.get(n) {
+    let rest: &'a [ScriptCall] = match scripts.get(n) {
         Some(rest) => rest,
         None => return None,
     };
@@ -84,9 +84,9 @@ fn take_call<'a>(scripts: &mut Vec<&'a [Call]>, n: usize) -> Option<&'a Call>
 // The next turn of the order, or none where the order is spent.
 fn next_ordered<'a>(
     order: &mut &'a [ThreadId],
-    scripts: &mut Vec<&'a [Call]>,
+    scripts: &mut Vec<&'a [ScriptCall]>,
     from: usize,
-) -> Option<(ThreadId, &'a Call)>
+) -> Option<(ThreadId, &'a ScriptCall)>
     requires { AreSpent from (calls_left scripts.old.items) }
     ensures turn { MatchOption result
         ((order.new.now ≡ []) × (turns_from order.old.now (calls_left scripts.old.items) ≡ rest_turns 0 (calls_left scripts.new.items)))
@@ -104,7 +104,10 @@ fn next_ordered<'a>(
 }
 
 // The next turn of what is left of the scripts, by rising thread number.
-fn next_left<'a>(scripts: &mut Vec<&'a [Call]>, from: &mut usize) -> Option<(ThreadId, &'a Call)>
+fn next_left<'a>(
+    scripts: &mut Vec<&'a [ScriptCall]>,
+    from: &mut usize,
+) -> Option<(ThreadId, &'a ScriptCall)>
     requires few { vec_len scripts.old ≤ 32 }
     requires spent { AreSpent from.old (calls_left scripts.old.items) }
     ensures turn { MatchOption result
@@ -128,7 +131,7 @@ fn next_left<'a>(scripts: &mut Vec<&'a [Call]>, from: &mut usize) -> Option<(Thr
 
 impl<'a> Turns<'a> {
     /// The next turn: a thread and its call. None exactly where no turn is left.
-    pub fn next(&mut self) -> Option<(ThreadId, &'a Call)>
+    pub fn next(&mut self) -> Option<(ThreadId, &'a ScriptCall)>
         ensures { MatchOption result ((self.old ≡ []) × (self.new ≡ [])) (λ t. self.old ≡ (t.0, t.1.now) ∷ self.new) }
     {
         if let Some(turn) = next_ordered(&mut self.order, &mut self.scripts, self.from) {

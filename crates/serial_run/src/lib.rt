@@ -6,21 +6,21 @@ ghost use Rattle.std.specs.Prelude.{◌≡◌, ◌∷◌, reverse, IsTrue, IfOk,
 ghost use Rattle.kernel_model.specs.Histories.{fits, Legal};
 ghost use Rattle.kernel_model.specs.Turns.{answered, serial};
 
-use kern_ids::calls::Call;
 use kern_ids::entries::{EntryList, NoMemory};
 use kern_ids::ids::ThreadId;
 use kernel_model::scenario::Scenario;
+use kernel_model::script_call::ScriptCall;
 use one_thread::kernel::OneThread;
 use scenario_turns::Turns;
 use std::alloc::Global;
 
 // Makes a call.
-fn take_turn(kernel: &mut OneThread, who: ThreadId, call: &Call) -> Result<(), NoMemory>
+fn take_turn(kernel: &mut OneThread, who: ThreadId, call: &ScriptCall) -> Result<(), NoMemory>
     requires { IsTrue (fits kernel.old.boot who call.now) }
     ensures boot { kernel.new.boot ≡ kernel.old.boot }
     ensures ok { OnOk result (reverse kernel.new.history ≡ answered kernel.old.boot (reverse kernel.old.history) (who, call.now) ∷ reverse kernel.old.history) }
 {
-    kernel.call(who, *call)?;
+    kernel.call(who, call.get())?;
     Ok(())
 }
 

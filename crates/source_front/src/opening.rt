@@ -18,7 +18,7 @@ use std::alloc::Global;
 const END: &[u8] = b"\nend\n";
 
 /// How many times as many bytes there have to be before they are looked at again without that line.
-const MORE: usize = 8;
+const MORE: usize = 64;
 
 /// What an input begins with.
 #[derive(Drop)]
@@ -139,7 +139,7 @@ fn read_past<S: Source>(
 
 /// Reads an input of at most `limit` bytes, a piece at a time: until its bytes begin with a scenario, which are then
 /// gathered, or else to its end. The bytes are looked at where a line comes that can end a scenario, and each time that
-/// there are eight times as many; they are gathered no more once a line is refused.
+/// there are 64 times as many; they are gathered no more once a line is refused.
 pub fn read_opening<S: Source>(
     alloc: Global,
     source: &mut S,

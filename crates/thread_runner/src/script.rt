@@ -5,9 +5,9 @@ ghost use Rattle.kernel_model.specs.Scenario.{script};
 ghost use Rattle.kernel_shared.specs.Calls.{IsIdleOf, IsSamePass};
 ghost use Rattle.thread_runner.specs.Runs.{FitsBy, HasRun, HasRunSome};
 
-use kern_ids::calls::Call;
 use kern_ids::entries::NoMemory;
 use kernel_model::scenario::Scenario;
+use kernel_model::script_call::ScriptCall;
 use kernel_shared::gate::Gate;
 use kernel_shared::shared::{Pass, SharedKernel};
 use std::sync::Wait;
@@ -18,7 +18,7 @@ fn run_calls<R: Wait, G: Gate>(
     gate: &G,
     kernel: &SharedKernel,
     pass: &mut Pass,
-    calls: &[Call],
+    calls: &[ScriptCall],
 ) -> Result<(), NoMemory>
     requires idle { IsIdleOf kernel.now pass.old }
     requires fit { All (FitsBy kernel.now.base pass.old.number) calls.now }
@@ -27,7 +27,7 @@ fn run_calls<R: Wait, G: Gate>(
     ensures stopped { OnErr result (HasRunSome pass.old pass.new calls.now) }
 {
     for call in calls {
-        kernel.call(rt, gate, pass, *call)?;
+        kernel.call(rt, gate, pass, call.get())?;
     }
     Ok(())
 }

@@ -29,6 +29,6 @@ pub returns-in-Unread-clause-stands : goal.returns-in-Unread-clause-stands
 returns-in-Unread-clause-stands c =
     let t = c.args.scenario.now in
     let piece = c.args.piece.now in
-    let same : c.feed_line.new.self ≡ c.args.replay.now = subst (λ (x : LineReplay). IsReplayed x t c.args.line.now c.args.replay.now c.feed_line.new.self) c.in-Unread.is c.in_ok-feed_line.ensures.replayed in
+    let same : c.feed_line.new.self ≡ c.args.replay.now = (subst (λ (x : LineReplay). IsReplayed x t c.args.line.now c.args.replay.now c.feed_line.new.self) c.in-Unread.is c.in_ok-feed_line.ensures.replayed).0 in
     subst (λ (r : ReplayView). IfOk c.read_some.result (λ taken. (s : Plan) (n : ℕ) (text : List ℕ) → StandsFor s n text (parts t c.args.feed.now r) → StandsFor s n (text ++ take taken piece) (parts t c.read_some.new.feed c.read_some.new.replay))) same
     c.read_some.ensures.stands

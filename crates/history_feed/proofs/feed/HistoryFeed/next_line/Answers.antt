@@ -1,4 +1,6 @@
-use Rattle.std.proofs.Common.{sym, ◌∙◌, arith}
+use Rattle.std.proofs.Common.{◌≡◌, [], ◌∷◌, eqb, drop, sym, ◌∙◌, ap, arith}
+use Rattle.line_text.specs.Cut.{lines_of}
+use Rattle.line_text.proofs.CutLemmas.{some_part}
 use Rattle.history_feed.proofs.Passed.{none-from}
 use Rattle.history_feed.proofs.feed.HistoryFeed.next_line.Goals as goal
 
@@ -11,3 +13,8 @@ returns-in-Some c = record {
   behind = c.in-Some.field-0-1.now;
   cut = c.in-Some.ensures.parts;
 }
+
+pub returns-in-None : goal.returns-in-None
+returns-in-None c = λ line next.
+    let cut : c.args.piece.now ∷ [] ≡ line ∷ lines_of next.behind = sym c.in-None.ensures.parts ∙ next.cut in
+    some_part (λ b. eqb b 10) next.behind (sym (ap (drop 1) cut))

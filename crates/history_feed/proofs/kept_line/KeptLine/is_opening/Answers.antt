@@ -5,4 +5,4 @@ use Rattle.history_feed.proofs.KeptLaws.{kept-opening}
 use Rattle.history_feed.proofs.kept_line.KeptLine.is_opening.Goals as goal
 
 pub returns : goal.returns
-returns c = λ line e. c.is_word.ensures ∙ ap (λ (t : List ℕ). bytes_eq t (codes "history")) c.as_slice.ensures ∙ kept-opening c.args.self.now line e
+returns c = λ line e. c.is_word.ensures ∙ ap (λ (t : List ℕ). bytes_eq t (codes "history")) c.as_slice.ensures.value ∙ kept-opening c.args.self.now line e

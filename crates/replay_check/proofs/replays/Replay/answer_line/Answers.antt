@@ -33,7 +33,7 @@ returns-then-ends_with_reply-clause-replayed c =
     let line : c.args.line.now ≡ line_of (entry_words (made who call expected)) =
     told.1 ∙ c.as_slice.ensures.value ∙ c.push_reply.ensures.bytes ∙ ap (λ (t : List ℕ). t ++ line_of (reply_words expected)) c.requires.front ∙ sym (made-line who call expected) in (
       made who call expected,
-      record { words = line; text = record { who = next.thread; call = next.line; reply = told.0 } },
+      record { words = line; text = record { who = next.thread; call = c.requires.has_line; reply = told.0 } },
       λ es stands.
           line-right s es r _ who call expected none next c.in_ok-expected.ensures.reply c.call.ensures.boot c.in_ok-expected.ensures.entry (ap (λ (n : ℕ). set inside.made n (get_or inside.made n 0 + 1)) c.get.ensures.value) refl (subst (StandsFor s es) (sym c.self.view_is) stands),
     )
@@ -55,7 +55,7 @@ returns-clause-replayed c =
     c.as_slice.ensures.value ∙ c.push_reply.ensures.bytes ∙ ap (λ (t : List ℕ). t ++ line_of (reply_words expected)) c.requires.front in (
       front-number who call line rest next.thread begins,
       λ es e is stands.
-          line-wrong s es e r _ who call expected line rest c.len-place.result none next begins c.in_ok-expected.ensures.reply (λ has same. c.ends_with_reply.ensures.no c.if-ends_with_reply.false has (same ∙ sym text))
+          line-wrong s es e r _ who call expected line rest c.len-place.result none next c.requires.has_line begins c.in_ok-expected.ensures.reply (λ has same. c.ends_with_reply.ensures.no c.if-ends_with_reply.false has (same ∙ sym text))
           c.len-place.ensures c.call.ensures.boot refl refl is (subst (StandsFor s es) (sym c.self.view_is) stands),
     )
 
