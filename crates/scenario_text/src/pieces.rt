@@ -8,7 +8,8 @@ ghost use Rattle.scenario_text.specs.Left.{text_left, IsNumbered};
 
 use crate::stage::Stage;
 use crate::writing::{
-    call_line, fixed_part, head_line, object_line, order_word, system_line, task_line, thread_line,
+    push_call_line, push_fixed, push_head_line, push_object_line, push_order_word,
+    push_system_line, push_task_line, push_thread_line,
 };
 use edge::pieces::Pieces;
 use kern_ids::ids::ThreadId;
@@ -46,79 +47,100 @@ impl<'a> ScenarioPieces<'a> {
     }
 }
 
-fn from_order(order: &[ThreadId]) -> (LineBuf, Stage<'_>)
-    ensures left { text_left (Stage.Order order.entry) ≡ result.0 ++ text_left result.1 }
-    ensures some { 0 < length result.0 }
-    ensures numbered { IsNumbered result.1 }
+// Each of these puts together the next piece, and gives what is left behind it.
+fn from_order<'a>(line: &mut LineBuf, order: &'a [ThreadId]) -> Stage<'a>
+    requires { line.old ≡ [] }
+    ensures left { text_left (Stage.Order order.entry) ≡ line.new ++ text_left result }
+    ensures some { 0 < length line.new }
+    ensures numbered { IsNumbered result }
 {
     match order.split_first() {
-        Some((who, rest)) => (order_word(who.get()), Stage::Order(rest)),
-        None => (fixed_part(b"\n"), Stage::End),
+        Some((who, rest)) => {
+            push_order_word(line, who.get());
+            Stage::Order(rest)
+        }
+        None => {
+            push_fixed(line, b"\n");
+            Stage::End
+        }
     }
 }
 
 #[tactic(auto, using(crate::proofs::PieceLemmas::no_sides_left, crate::proofs::PieceLemmas::no_scripts_left))]
 fn from_threads<'a>(
+    line: &mut LineBuf,
     order: &'a [ThreadId],
     sides: &'a [Side],
     scripts: &'a [Script],
     n: usize,
-) -> (LineBuf, Stage<'a>)
-    requires { n + length sides.now ≤ 32 }
-    ensures left { text_left (Stage.Threads order.entry sides.entry scripts.entry n) ≡ result.0 ++ text_left result.1 }
-    ensures some { 0 < length result.0 }
-    ensures numbered { IsNumbered result.1 }
+) -> Stage<'a>
+    requires empty { line.old ≡ [] }
+    requires number { n + length sides.now ≤ 32 }
+    ensures left { text_left (Stage.Threads order.entry sides.entry scripts.entry n) ≡ line.new ++ text_left result }
+    ensures some { 0 < length line.new }
+    ensures numbered { IsNumbered result }
 {
     let (side, sides) = match sides.split_first() {
         Some(split) => split,
-        None => return (fixed_part(b"order"), Stage::Order(order)),
+        None => {
+            push_fixed(line, b"order");
+            return Stage::Order(order);
+        }
     };
     match scripts.split_first() {
-        Some((script, scripts)) => (
-            thread_line(n, side),
-            Stage::Calls(script.calls(), order, sides, scripts, n + 1),
-        ),
-        None => (fixed_part(b"order"), Stage::Order(order)),
+        Some((script, scripts)) => {
+            push_thread_line(line, n, side);
+            Stage::Calls(script.calls(), order, sides, scripts, n + 1)
+        }
+        None => {
+            push_fixed(line, b"order");
+            Stage::Order(order)
+        }
     }
 }
 
 fn from_calls<'a>(
+    line: &mut LineBuf,
     calls: &'a [ScriptCall],
     order: &'a [ThreadId],
     sides: &'a [Side],
     scripts: &'a [Script],
     n: usize,
-) -> (LineBuf, Stage<'a>)
-    requires { n + length sides.now ≤ 32 }
-    ensures left { text_left (Stage.Calls calls.entry order.entry sides.entry scripts.entry n) ≡ result.0 ++ text_left result.1 }
-    ensures some { 0 < length result.0 }
-    ensures numbered { IsNumbered result.1 }
+) -> Stage<'a>
+    requires empty { line.old ≡ [] }
+    requires number { n + length sides.now ≤ 32 }
+    ensures left { text_left (Stage.Calls calls.entry order.entry sides.entry scripts.entry n) ≡ line.new ++ text_left result }
+    ensures some { 0 < length line.new }
+    ensures numbered { IsNumbered result }
 {
     match calls.split_first() {
-        Some((call, calls)) => (
-            call_line(&call.get()),
-            Stage::Calls(calls, order, sides, scripts, n),
-        ),
-        None => from_threads(order, sides, scripts, n),
+        Some((call, calls)) => {
+            push_call_line(line, &call.get());
+            Stage::Calls(calls, order, sides, scripts, n)
+        }
+        None => from_threads(line, order, sides, scripts, n),
     }
 }
 
 fn from_objects<'a>(
+    line: &mut LineBuf,
     scenario: &'a Scenario,
     objects: &'a [ObjBoot],
     n: usize,
-) -> (LineBuf, Stage<'a>)
-    requires { n + length objects.now ≤ 256 }
-    ensures left { text_left (Stage.Objects scenario.entry objects.entry n) ≡ result.0 ++ text_left result.1 }
-    ensures some { 0 < length result.0 }
-    ensures numbered { IsNumbered result.1 }
+) -> Stage<'a>
+    requires empty { line.old ≡ [] }
+    requires number { n + length objects.now ≤ 256 }
+    ensures left { text_left (Stage.Objects scenario.entry objects.entry n) ≡ line.new ++ text_left result }
+    ensures some { 0 < length line.new }
+    ensures numbered { IsNumbered result }
 {
     match objects.split_first() {
-        Some((object, objects)) => (
-            object_line(n, object),
-            Stage::Objects(scenario, objects, n + 1),
-        ),
+        Some((object, objects)) => {
+            push_object_line(line, n, object);
+            Stage::Objects(scenario, objects, n + 1)
+        }
         None => from_threads(
+            line,
             scenario.order(),
             scenario.boot().sides(),
             scenario.scripts(),
@@ -127,41 +149,56 @@ fn from_objects<'a>(
     }
 }
 
-fn from_tasks<'a>(scenario: &'a Scenario, tasks: &'a [TaskBoot], n: usize) -> (LineBuf, Stage<'a>)
-    requires { n + length tasks.now ≤ 64 }
-    ensures left { text_left (Stage.Tasks scenario.entry tasks.entry n) ≡ result.0 ++ text_left result.1 }
-    ensures some { 0 < length result.0 }
-    ensures numbered { IsNumbered result.1 }
+fn from_tasks<'a>(
+    line: &mut LineBuf,
+    scenario: &'a Scenario,
+    tasks: &'a [TaskBoot],
+    n: usize,
+) -> Stage<'a>
+    requires empty { line.old ≡ [] }
+    requires number { n + length tasks.now ≤ 64 }
+    ensures left { text_left (Stage.Tasks scenario.entry tasks.entry n) ≡ line.new ++ text_left result }
+    ensures some { 0 < length line.new }
+    ensures numbered { IsNumbered result }
 {
     match tasks.split_first() {
-        Some((task, tasks)) => (
-            task_line(scenario.form(), n, task),
-            Stage::Tasks(scenario, tasks, n + 1),
-        ),
-        None => from_objects(scenario, scenario.boot().objects(), 0),
+        Some((task, tasks)) => {
+            push_task_line(line, scenario.form(), n, task);
+            Stage::Tasks(scenario, tasks, n + 1)
+        }
+        None => from_objects(line, scenario, scenario.boot().objects(), 0),
     }
 }
 
-// The next piece and what is left after it, if anything is left.
-fn next_part(stage: Stage<'_>) -> Option<(LineBuf, Stage<'_>)>
-    requires { IsNumbered stage }
-    ensures left { MatchOption result (text_left stage.entry ≡ []) (λ p. (0 < length p.0) × (text_left stage.entry ≡ p.0 ++ text_left p.1)) }
-    ensures numbered { MatchOption result (Unit {0}) (λ p. IsNumbered p.1) }
+// The next piece, and what is left after it, if anything is left.
+fn next_part<'a>(line: &mut LineBuf, stage: Stage<'a>) -> Option<Stage<'a>>
+    requires empty { line.old ≡ [] }
+    requires number { IsNumbered stage }
+    ensures left { MatchOption result (text_left stage.entry ≡ []) (λ rest. (0 < length line.new) × (text_left stage.entry ≡ line.new ++ text_left rest)) }
+    ensures numbered { MatchOption result (Unit {0}) (λ rest. IsNumbered rest) }
 {
     match stage {
-        Stage::Head(scenario) => Some((head_line(scenario.form()), Stage::System(scenario))),
-        Stage::System(scenario) => Some((
-            system_line(scenario.form(), scenario.boot().params()),
-            Stage::Tasks(scenario, scenario.boot().tasks(), 0),
-        )),
-        Stage::Tasks(scenario, tasks, n) => Some(from_tasks(scenario, tasks, n)),
-        Stage::Objects(scenario, objects, n) => Some(from_objects(scenario, objects, n)),
-        Stage::Threads(order, sides, scripts, n) => Some(from_threads(order, sides, scripts, n)),
-        Stage::Calls(calls, order, sides, scripts, n) => {
-            Some(from_calls(calls, order, sides, scripts, n))
+        Stage::Head(scenario) => {
+            push_head_line(line, scenario.form());
+            Some(Stage::System(scenario))
         }
-        Stage::Order(order) => Some(from_order(order)),
-        Stage::End => Some((fixed_part(b"end\n"), Stage::Closed)),
+        Stage::System(scenario) => {
+            push_system_line(line, scenario.form(), scenario.boot().params());
+            Some(Stage::Tasks(scenario, scenario.boot().tasks(), 0))
+        }
+        Stage::Tasks(scenario, tasks, n) => Some(from_tasks(line, scenario, tasks, n)),
+        Stage::Objects(scenario, objects, n) => Some(from_objects(line, scenario, objects, n)),
+        Stage::Threads(order, sides, scripts, n) => {
+            Some(from_threads(line, order, sides, scripts, n))
+        }
+        Stage::Calls(calls, order, sides, scripts, n) => {
+            Some(from_calls(line, calls, order, sides, scripts, n))
+        }
+        Stage::Order(order) => Some(from_order(line, order)),
+        Stage::End => {
+            push_fixed(line, b"end\n");
+            Some(Stage::Closed)
+        }
         Stage::Closed => None,
     }
 }
@@ -170,8 +207,8 @@ impl<'a> Pieces for ScenarioPieces<'a> {
     ghost text_left = { λ text. text };
 
     fn next_piece(&mut self) -> Option<LineBuf> {
-        let (piece, stage) = next_part(self.stage)?;
-        self.stage = stage;
+        let mut piece = LineBuf::new();
+        self.stage = next_part(&mut piece, self.stage)?;
         Some(piece)
     }
 }

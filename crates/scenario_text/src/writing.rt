@@ -32,16 +32,15 @@ fn push_limit_field(line: &mut LineBuf, name: &[u8], limit: &Limit)
     push_limit(line, limit);
 }
 
-/// The first line.
-pub fn head_line(form: Form) -> LineBuf
-    ensures { result ≡ line_of (head_words form) ++ 10 ∷ [] }
+/// Puts together the first line.
+pub fn push_head_line(line: &mut LineBuf, form: Form)
+    requires { line.old ≡ [] }
+    ensures { line.new ≡ line_of (head_words form) ++ 10 ∷ [] }
 {
-    let mut line = LineBuf::new();
     match form {
         Form::One { .. } => line.push(b"jetlab 1\n"),
         Form::Two => line.push(b"jetlab 2\n"),
     }
-    line
 }
 
 // Appends the delay of the first form.
@@ -55,19 +54,18 @@ fn push_delay(line: &mut LineBuf, form: Form)
     }
 }
 
-/// The system line.
-pub fn system_line(form: Form, params: Params) -> LineBuf
-    ensures { result ≡ line_of (system_words form params) ++ 10 ∷ [] }
+/// Puts together the system line.
+pub fn push_system_line(line: &mut LineBuf, form: Form, params: Params)
+    requires { line.old ≡ [] }
+    ensures { line.new ≡ line_of (system_words form params) ++ 10 ∷ [] }
 {
-    let mut line = LineBuf::new();
-    push_field(&mut line, b"system frames ", params.frames);
-    push_field(&mut line, b" target ", params.target);
-    push_field(&mut line, b" inactive ", params.inactive);
-    push_field(&mut line, b" store ", params.store);
-    push_field(&mut line, b" critical ", params.critical);
-    push_delay(&mut line, form);
+    push_field(line, b"system frames ", params.frames);
+    push_field(line, b" target ", params.target);
+    push_field(line, b" inactive ", params.inactive);
+    push_field(line, b" store ", params.store);
+    push_field(line, b" critical ", params.critical);
+    push_delay(line, form);
     line.push(b"\n");
-    line
 }
 
 // Appends the delay and the ageing band of the second form.
@@ -93,20 +91,19 @@ fn push_internal(line: &mut LineBuf, task: &TaskBoot)
     }
 }
 
-/// A task's line.
-pub fn task_line(form: Form, n: usize, task: &TaskBoot) -> LineBuf
-    requires { n < 64 }
-    ensures { result ≡ line_of (task_words form n task.now) ++ 10 ∷ [] }
+/// Puts together a task's line.
+pub fn push_task_line(line: &mut LineBuf, form: Form, n: usize, task: &TaskBoot)
+    requires empty { line.old ≡ [] }
+    requires number { n < 64 }
+    ensures { line.new ≡ line_of (task_words form n task.now) ++ 10 ∷ [] }
 {
-    let mut line = LineBuf::new();
-    push_field(&mut line, b"task ", n as u32);
-    push_field(&mut line, b" band ", task.band.get());
-    push_limit_field(&mut line, b" active ", &task.active);
-    push_limit_field(&mut line, b" inactive ", &task.inactive);
-    push_ages(&mut line, form, task);
-    push_internal(&mut line, task);
+    push_field(line, b"task ", n as u32);
+    push_field(line, b" band ", task.band.get());
+    push_limit_field(line, b" active ", &task.active);
+    push_limit_field(line, b" inactive ", &task.inactive);
+    push_ages(line, form, task);
+    push_internal(line, task);
     line.push(b"\n");
-    line
 }
 
 // Appends tasks, each after a space.
@@ -124,60 +121,55 @@ fn push_sharers(line: &mut LineBuf, tasks: &TaskLine)
     }
 }
 
-/// An object's line.
-pub fn object_line(n: usize, object: &ObjBoot) -> LineBuf
-    requires { n < 256 }
-    ensures { result ≡ line_of (object_words n object.now) ++ 10 ∷ [] }
+/// Puts together an object's line.
+pub fn push_object_line(line: &mut LineBuf, n: usize, object: &ObjBoot)
+    requires empty { line.old ≡ [] }
+    requires number { n < 256 }
+    ensures { line.new ≡ line_of (object_words n object.now) ++ 10 ∷ [] }
 {
-    let mut line = LineBuf::new();
-    push_field(&mut line, b"object ", n as u32);
+    push_field(line, b"object ", n as u32);
     line.push(b" task");
-    push_sharers(&mut line, &object.tasks);
-    push_field(&mut line, b" pages ", object.pages);
+    push_sharers(line, &object.tasks);
+    push_field(line, b" pages ", object.pages);
     line.push(b"\n");
-    line
 }
 
-/// A thread's line.
-pub fn thread_line(n: usize, side: &Side) -> LineBuf
-    requires { n < 32 }
-    ensures { result ≡ line_of (thread_words n side.now) ++ 10 ∷ [] }
+/// Puts together a thread's line.
+pub fn push_thread_line(line: &mut LineBuf, n: usize, side: &Side)
+    requires empty { line.old ≡ [] }
+    requires number { n < 32 }
+    ensures { line.new ≡ line_of (thread_words n side.now) ++ 10 ∷ [] }
 {
-    let mut line = LineBuf::new();
-    push_field(&mut line, b"thread ", n as u32);
+    push_field(line, b"thread ", n as u32);
     match side {
-        Side::Task(t) => push_field(&mut line, b" task ", t.get()),
+        Side::Task(t) => push_field(line, b" task ", t.get()),
         Side::Kernel => line.push(b" kernel"),
     }
     line.push(b"\n");
-    line
 }
 
-/// A call's line.
-pub fn call_line(call: &Call) -> LineBuf
-    ensures { result ≡ line_of (call_words call.now) ++ 10 ∷ [] }
+/// Puts together a call's line.
+pub fn push_call_line(line: &mut LineBuf, call: &Call)
+    requires { line.old ≡ [] }
+    ensures { line.new ≡ line_of (call_words call.now) ++ 10 ∷ [] }
 {
-    let mut line = LineBuf::new();
-    push_call(&mut line, call);
+    push_call(line, call);
     line.push(b"\n");
-    line
 }
 
-/// A word of the order line with the space before it.
-pub fn order_word(n: u32) -> LineBuf
-    ensures { result ≡ 32 ∷ decimal n }
+/// Puts together a word of the order line with the space before it.
+pub fn push_order_word(line: &mut LineBuf, n: u32)
+    requires { line.old ≡ [] }
+    ensures { line.new ≡ 32 ∷ decimal n }
 {
-    let mut line = LineBuf::new();
-    push_field(&mut line, b" ", n);
-    line
+    push_field(line, b" ", n);
 }
 
-/// A line or a part of one that is fixed.
-pub fn fixed_part(bytes: &[u8]) -> LineBuf
-    requires { length bytes.now ≤ 16 }
-    ensures { result ≡ bytes.now }
+/// Puts together a line or a part of one that is fixed.
+pub fn push_fixed(line: &mut LineBuf, bytes: &[u8])
+    requires empty { line.old ≡ [] }
+    requires short { length bytes.now ≤ 16 }
+    ensures { line.new ≡ bytes.now }
 {
-    let mut line = LineBuf::new();
     line.push(bytes);
-    line
 }
