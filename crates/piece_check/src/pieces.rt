@@ -2,6 +2,7 @@
 
 ghost use Rattle.std.specs.Prelude.{◌≡◌, ◌<◌, ◌≤◌, ◌+◌, ◌++◌, ◌^◌, ℕ, List, [], length, take, IfOk, OnOk};
 ghost use Rattle.kernel_model.specs.Scenario.{Plan};
+ghost use Rattle.history_feed.specs.Feeds as feeds;
 ghost use Rattle.history_feed.specs.Feeds.{IsNextLine};
 ghost use Rattle.history_reading.specs.Histories.{history_of};
 ghost use Rattle.piece_check.specs.Pieces.{GrowsBy, HasRoom, KeepsRoom, Stands, StandsFor, end_of, parts};
@@ -35,7 +36,9 @@ impl Model for PieceCheck {
     ghost invariant = { λ c. Stands (parts c.scenario c.feed c.replay) };
 }
 
-// Takes bytes of the piece up to the end of one line, and replays the entry that they end: how many it took.
+// Takes bytes of the piece up to the end of one line, and replays the entry that they end: how many it took. It has
+// room for an entry, which a line that is replayed by its text needs not.
+#[inline(never)]
 fn read_some(
     scenario: &Scenario,
     feed: &mut HistoryFeed,
@@ -59,6 +62,20 @@ fn read_some(
     }
 }
 
+// Takes bytes of the piece up to the end of one line, whose entry was replayed: how many.
+#[inline(never)]
+fn skip(feed: &mut HistoryFeed, piece: &[u8]) -> usize
+    requires { feeds.HasRoom feed.old (length piece.now) }
+    ensures taken { result ≡ feeds.taken_of feed.old piece.now }
+    ensures within { result ≤ length piece.now }
+    ensures some { 0 < length piece.now → 0 < result }
+    ensures room { (more : ℕ) → feeds.HasRoom feed.old (result + more) → feeds.HasRoom feed.new more }
+    ensures first { feeds.first_line_of feed.new ≡ feeds.first_line_of feed.old }
+    ensures stands { (text : List ℕ) → feeds.StandsFor feed.old text → feeds.StandsFor feed.new (text ++ take result piece.now) }
+{
+    feed.feed(piece).taken
+}
+
 // Takes a line that the piece begins with and ends, and replays it by its text where that can be.
 fn take_line(
     scenario: &Scenario,
@@ -79,10 +96,7 @@ fn take_line(
     match replay.feed_line(scenario, line, text)? {
         LineReplay::Right => Ok(feed.pass(piece, line)),
         // Its entry, if it has one, was replayed.
-        LineReplay::Wrong => {
-            let Fed { taken, entry: _ } = feed.feed(piece);
-            Ok(taken)
-        }
+        LineReplay::Wrong => Ok(skip(feed, piece)),
         LineReplay::Unread => read_some(scenario, feed, replay, piece),
     }
 }

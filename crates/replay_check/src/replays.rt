@@ -18,6 +18,7 @@ use kern_ids::calls::Call;
 use kern_ids::entries::{Entry, NoMemory};
 use kern_ids::ids::ThreadId;
 use kern_ids::lines::LineBuf;
+use kern_ids::replies::Reply;
 use kernel_model::scenario::Scenario;
 use replay_kernel::kernel::ReplayKernel;
 use std::alloc::Global;
@@ -112,7 +113,8 @@ impl Replay {
             self.fault = Some(Verdict::WrongCall { place });
             return Ok(());
         }
-        let expected = self.kernel.call(entry.who, &entry.call)?;
+        let mut expected = Reply::Nothing;
+        self.kernel.call(entry.who, &entry.call, &mut expected)?;
         if !same_reply(&entry.reply, &expected) {
             self.fault = Some(Verdict::WrongReply { place, expected });
             return Ok(());
@@ -143,7 +145,8 @@ impl Replay {
     {
         scenario.valid();
         let place = self.kernel.len() as u32;
-        let expected = self.kernel.call(who, call)?;
+        let mut expected = Reply::Nothing;
+        self.kernel.call(who, call, &mut expected)?;
         push_reply(text, &expected);
         if ends_with_reply(line, text.as_slice(), &expected) {
             self.made[who.get() as usize] += 1;

@@ -1,6 +1,6 @@
 //! The kernel that a history is replayed on.
 
-ghost use Rattle.std.specs.Prelude.{◌≡◌, ◌++◌, ◌∷◌, [], length, reverse, IsTrue, IfOk, OnErr};
+ghost use Rattle.std.specs.Prelude.{◌≡◌, ◌++◌, ◌∷◌, [], length, reverse, IsTrue, IfOk, OnOk, OnErr};
 ghost use Rattle.kernel_model.specs.Answers.{answer};
 ghost use Rattle.kernel_model.specs.Histories.{fits};
 ghost use Rattle.kernel_tables.specs.Stands.{Stands};
@@ -74,28 +74,29 @@ impl ReplayKernel {
         &self.tables
     }
 
-    /// Makes a call: answers it, and its entry is the history's last. Without memory no entry is made. A history has
-    /// at most 2^32 entries.
-    pub fn call(&mut self, who: ThreadId, call: &Call) -> Result<Reply, NoMemory>
+    /// Makes a call: `reply` is then its answer, and its entry is the history's last. Without memory no entry is made.
+    /// A history has at most 2^32 entries.
+    pub fn call(&mut self, who: ThreadId, call: &Call, reply: &mut Reply) -> Result<(), NoMemory>
         requires { IsTrue (fits self.old.boot who call.now) }
-        ensures reply { IfOk result (λ reply. reply ≡ answer self.old.boot (reverse self.old.history) who call.now) }
-        ensures entry { IfOk result (λ reply. self.new.history ≡ self.old.history ++ record { who = who; call = call.now; reply = reply } ∷ []) }
+        ensures reply { OnOk result (reply.new ≡ answer self.old.boot (reverse self.old.history) who call.now) }
+        ensures entry { OnOk result (self.new.history ≡ self.old.history ++ record { who = who; call = call.now; reply = reply.new } ∷ []) }
         ensures boot { self.new.boot ≡ self.old.boot }
         ensures unchanged { OnErr result (self.new ≡ self.old) }
     {
         if MOST <= self.count {
             return Err(NoMemory);
         }
-        let reply = step(
+        step(
             &self.boot,
             &mut self.tables,
             &mut self.bodies,
             &self.past,
             who,
             call,
+            reply,
         )?;
-        self.past = self.past.and(&who, call, &reply);
+        self.past = self.past.and(&who, call, reply);
         self.count += 1;
-        Ok(reply)
+        Ok(())
     }
 }

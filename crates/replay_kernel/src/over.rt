@@ -23,17 +23,18 @@ pub(crate) fn step_over(
     who: ThreadId,
     call: &Call,
     seen: ByteLine,
-) -> Reply
+    reply: &mut Reply,
+)
     ghost past: { List AnEntry }
     requires stands { Stands tables.old past }
     requires fits { IsTrue (fits tables.old.boot who call.now) }
     requires seen { SeesBytes tables.old.boot past call.now seen }
     requires room { length past + 1 < 2 ^ 64 }
-    ensures reply { result ≡ answer tables.old.boot past who call.now }
-    ensures stands { Stands tables.new (entry_of who call.now result ∷ past) }
+    ensures reply { reply.new ≡ answer tables.old.boot past who call.now }
+    ensures stands { Stands tables.new (entry_of who call.now reply.new ∷ past) }
     ensures boot { tables.new.boot ≡ tables.old.boot }
 {
-    tables.step(who, call, seen)
+    *reply = tables.step(who, call, seen);
 }
 
 // The object that the call would purge.

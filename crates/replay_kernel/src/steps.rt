@@ -1,6 +1,6 @@
 //! One call, with the body of the object that it needs, or with none.
 
-ghost use Rattle.std.specs.Prelude.{◌≡◌, ◌++◌, ◌∷◌, [], ◌<◌, length, reverse, IsTrue, IfOk, OnErr, None, Some};
+ghost use Rattle.std.specs.Prelude.{◌≡◌, ◌++◌, ◌∷◌, [], ◌<◌, length, reverse, IsTrue, OnOk, OnErr, None, Some};
 ghost use Rattle.kernel_model.specs.Answers.{answer};
 ghost use Rattle.kernel_model.specs.Histories.{fits};
 ghost use Rattle.kernel_tables.specs.Stands.{Stands};
@@ -38,16 +38,16 @@ fn needed(tables: &Tables, past: &Past, who: ThreadId, call: &Call) -> Option<u3
 }
 
 // Makes a call that needs no object.
-fn step_alone(tables: &mut Tables, past: &Past, who: ThreadId, call: &Call) -> Reply
+fn step_alone(tables: &mut Tables, past: &Past, who: ThreadId, call: &Call, reply: &mut Reply)
     requires stands { Stands tables.old (reverse past.now.list) }
     requires room { length past.now.list < 4294967296 }
     requires fits { IsTrue (fits tables.old.boot who call.now) }
     requires alone { needed_number tables.old.boot (reverse past.now.list) who call.now ≡ None }
-    ensures reply { result ≡ answer tables.old.boot (reverse past.now.list) who call.now }
-    ensures stands { Stands tables.new (entry_of who call.now result ∷ reverse past.now.list) }
+    ensures reply { reply.new ≡ answer tables.old.boot (reverse past.now.list) who call.now }
+    ensures stands { Stands tables.new (entry_of who call.now reply.new ∷ reverse past.now.list) }
     ensures boot { tables.new.boot ≡ tables.old.boot }
 {
-    step_over(tables, past, who, call, no_bytes())
+    step_over(tables, past, who, call, no_bytes(), reply);
 }
 
 // Makes a call that needs object o. What the reply says is then done to its body.
@@ -59,7 +59,8 @@ fn step_with(
     o: u32,
     who: ThreadId,
     call: &Call,
-) -> Result<Reply, NoMemory>
+    reply: &mut Reply,
+) -> Result<(), NoMemory>
     requires boot { tables.old.boot ≡ boot.now }
     requires stands { Stands tables.old (reverse past.now.list) }
     requires room { length past.now.list < 4294967296 }
@@ -67,9 +68,9 @@ fn step_with(
     requires needed { needed_number boot.now (reverse past.now.list) who call.now ≡ Some o }
     requires object { o < length boot.now.objects }
     requires bodies { HasBodies boot.now past.now.list bodies.old.items }
-    ensures reply { IfOk result (λ reply. reply ≡ answer boot.now (reverse past.now.list) who call.now) }
-    ensures stands { IfOk result (λ reply. Stands tables.new (entry_of who call.now reply ∷ reverse past.now.list)) }
-    ensures bodies { IfOk result (λ reply. HasBodies boot.now (past.now.list ++ entry_of who call.now reply ∷ []) bodies.new.items) }
+    ensures reply { OnOk result (reply.new ≡ answer boot.now (reverse past.now.list) who call.now) }
+    ensures stands { OnOk result (Stands tables.new (entry_of who call.now reply.new ∷ reverse past.now.list)) }
+    ensures bodies { OnOk result (HasBodies boot.now (past.now.list ++ entry_of who call.now reply.new ∷ []) bodies.new.items) }
     ensures boot { tables.new.boot ≡ boot.now }
     ensures unchanged { OnErr result (tables.new ≡ tables.old) }
     ensures kept { OnErr result (HasBodies boot.now past.now.list bodies.new.items) }
@@ -77,9 +78,9 @@ fn step_with(
     let body = &mut bodies[o as usize];
     prepare(boot, call, body)?;
     let seen = look(boot, call, body);
-    let reply = step_over(tables, past, who, call, seen);
-    apply(boot, call, &reply, body);
-    Ok(reply)
+    step_over(tables, past, who, call, seen, reply);
+    apply(boot, call, reply, body);
+    Ok(())
 }
 
 // Makes a call. Without memory nothing is changed.
@@ -90,21 +91,25 @@ pub(crate) fn step(
     past: &Past,
     who: ThreadId,
     call: &Call,
-) -> Result<Reply, NoMemory>
+    reply: &mut Reply,
+) -> Result<(), NoMemory>
     requires boot { tables.old.boot ≡ boot.now }
     requires stands { Stands tables.old (reverse past.now.list) }
     requires room { length past.now.list < 4294967296 }
     requires fits { IsTrue (fits boot.now who call.now) }
     requires bodies { HasBodies boot.now past.now.list bodies.old.items }
-    ensures reply { IfOk result (λ reply. reply ≡ answer boot.now (reverse past.now.list) who call.now) }
-    ensures stands { IfOk result (λ reply. Stands tables.new (entry_of who call.now reply ∷ reverse past.now.list)) }
-    ensures bodies { IfOk result (λ reply. HasBodies boot.now (past.now.list ++ entry_of who call.now reply ∷ []) bodies.new.items) }
+    ensures reply { OnOk result (reply.new ≡ answer boot.now (reverse past.now.list) who call.now) }
+    ensures stands { OnOk result (Stands tables.new (entry_of who call.now reply.new ∷ reverse past.now.list)) }
+    ensures bodies { OnOk result (HasBodies boot.now (past.now.list ++ entry_of who call.now reply.new ∷ []) bodies.new.items) }
     ensures boot { tables.new.boot ≡ boot.now }
     ensures unchanged { OnErr result (tables.new ≡ tables.old) }
     ensures kept { OnErr result (HasBodies boot.now past.now.list bodies.new.items) }
 {
     match needed(tables, past, who, call) {
-        Some(o) => step_with(boot, tables, bodies, past, o, who, call),
-        None => Ok(step_alone(tables, past, who, call)),
+        Some(o) => step_with(boot, tables, bodies, past, o, who, call, reply),
+        None => {
+            step_alone(tables, past, who, call, reply);
+            Ok(())
+        }
     }
 }

@@ -59,7 +59,8 @@ fn gets(
 {
     let who = ThreadId::new(who).ok_or("a thread")?;
     assert!(rt; boot.fits(who, call));
-    let answer = kernel.call(who, call)?;
+    let mut answer = Reply::Nothing;
+    kernel.call(who, call, &mut answer)?;
     assert_eq!(rt; answer, reply);
     Ok(())
 }

@@ -21,9 +21,9 @@ returns-in-Wrong-clause-stands c =
     let line = c.args.line.now in
     let is = c.requires.next in
     let wrong = subst (λ (x : LineReplay). IsReplayed x t line c.args.replay.now c.feed_line.new.self) c.in-Wrong.is c.in_ok-feed_line.ensures.replayed in
-    let long : c.feed-taken.result.taken ≡ length line + 1 = c.feed-taken.ensures.taken ∙ taken-none old piece is.sound ∙ ap line_end is.cut ∙ line_end-some line is.behind in
+    let long : c.skip.result ≡ length line + 1 = c.skip.ensures.taken ∙ taken-none old piece is.sound ∙ ap line_end is.cut ∙ line_end-some line is.behind in
     λ s n text h.
-    wrong-grown s t old c.feed-taken.new.self c.args.replay.now c.feed_line.new.self n c.feed-taken.result.taken text piece line is long wrong.0 wrong.1 c.feed-taken.ensures.first (c.feed-taken.ensures.stands text) h
+    wrong-grown s t old c.skip.new.feed c.args.replay.now c.feed_line.new.self n c.skip.result text piece line is long wrong.0 wrong.1 c.skip.ensures.first (c.skip.ensures.stands text) h
 
 pub returns-in-Unread-clause-stands : goal.returns-in-Unread-clause-stands
 returns-in-Unread-clause-stands c =

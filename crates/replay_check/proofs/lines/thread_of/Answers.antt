@@ -1,5 +1,4 @@
-use Rattle.std.proofs.Common.{◌≡◌, ℕ, List, ◌∷◌, Some, Ok, ap, sym, ◌∙◌, arith}
-use Rattle.std.specs.Fmt.{decimal}
+use Rattle.std.proofs.Common.{ℕ, List, Some, ap, sym, ◌∙◌, arith}
 use Rattle.line_text.specs.Words.{reference}
 use Rattle.line_text.proofs.GrammarLemmas.{ok_is}
 use Rattle.line_text.proofs.WordLaws.{reference_again}

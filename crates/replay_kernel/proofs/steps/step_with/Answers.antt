@@ -11,8 +11,8 @@ use Rattle.one_thread.proofs.Kept.{held-bytes, needed-kept}
 use Rattle.replay_kernel.proofs.Given.{sees-needed}
 use Rattle.replay_kernel.proofs.steps.step_with.Goals as goal
 
-pub step_over-reply-requires : goal.step_over-reply-requires
-step_over-reply-requires c =
+pub step_over-requires : goal.step_over-requires
+step_over-requires c =
     let boot = c.args.boot.now in
     let h = c.args.past.now.list in
     let call = c.args.call.now in
@@ -25,17 +25,17 @@ step_over-reply-requires c =
 pub apply-requires-clause-range : goal.apply-requires-clause-range
 apply-requires-clause-range c =
     let past = reverse c.args.past.now.list in
-    write-in_range c.args.boot.now past c.args.who c.args.call.now c.step_over-reply.result
-    (c.step_over-reply.ensures.reply ∙ ap (λ (b : System). answer b past c.args.who c.args.call.now) c.requires.boot)
+    write-in_range c.args.boot.now past c.args.who c.args.call.now c.step_over.new.reply
+    (c.step_over.ensures.reply ∙ ap (λ (b : System). answer b past c.args.who c.args.call.now) c.requires.boot)
 
 pub returns-clause-bodies : goal.returns-clause-bodies
 returns-clause-bodies c =
     let boot = c.args.boot.now in
     let h = c.args.past.now.list in
     let call = c.args.call.now in
-    let reply = c.step_over-reply.result in
+    let reply = c.step_over.new.reply in
     let was = c.index_mut-body.result.now in
-    let answered : reply ≡ answer boot (reverse h) c.args.who call = c.step_over-reply.ensures.reply ∙ ap (λ (b : System). answer b (reverse h) c.args.who call) c.requires.boot in
+    let answered : reply ≡ answer boot (reverse h) c.args.who call = c.step_over.ensures.reply ∙ ap (λ (b : System). answer b (reverse h) c.args.who call) c.requires.boot in
     let left : c.apply.new.body.bytes ≡ bytes_left call reply was.bytes = c.apply.ensures ∙ ap (bytes_left call reply) c.prepare.ensures.bytes in
     needed-kept boot h (h ++ made c.args.who call reply ∷ []) c.args.who c.args.o call reply was c.apply.new.body c.args.bodies.now.items answered c.requires.needed refl c.requires.bodies
     (held-bytes boot h c.args.o was c.args.bodies.now.items c.requires.object c.requires.bodies c.index_mut-body.ensures.value) left

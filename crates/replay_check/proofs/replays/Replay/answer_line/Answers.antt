@@ -24,7 +24,7 @@ returns-then-ends_with_reply-clause-replayed c =
     let s = c.args.scenario.now in
     let who = c.args.who in
     let call = c.args.call.now in
-    let expected = c.in_ok-expected.expected in
+    let expected = c.call.new.reply in
     let inside = c.self.inside in
     let r : ReplayView = record { boot = inside.kernel.boot; history = inside.kernel.history; made = inside.made; fault = inside.fault } in
     let none : r.fault ≡ None = ap (λ (v : ReplayView). v.fault) c.self.view_is ∙ c.requires.sound in
@@ -35,7 +35,7 @@ returns-then-ends_with_reply-clause-replayed c =
       made who call expected,
       record { words = line; text = record { who = next.thread; call = c.requires.has_line; reply = told.0 } },
       λ es stands.
-          line-right s es r _ who call expected none next c.in_ok-expected.ensures.reply c.call.ensures.boot c.in_ok-expected.ensures.entry (ap (λ (n : ℕ). set inside.made n (get_or inside.made n 0 + 1)) c.get.ensures.value) refl (subst (StandsFor s es) (sym c.self.view_is) stands),
+          line-right s es r _ who call expected none next c.in_ok-call.ensures.reply c.call.ensures.boot c.in_ok-call.ensures.entry (ap (λ (n : ℕ). set inside.made n (get_or inside.made n 0 + 1)) c.get.ensures.value) refl (subst (StandsFor s es) (sym c.self.view_is) stands),
     )
 
 pub returns-clause-replayed : goal.returns-clause-replayed
@@ -44,7 +44,7 @@ returns-clause-replayed c =
     let who = c.args.who in
     let call = c.args.call.now in
     let line = c.args.line.now in
-    let expected = c.in_ok-expected.expected in
+    let expected = c.call.new.reply in
     let inside = c.self.inside in
     let r : ReplayView = record { boot = inside.kernel.boot; history = inside.kernel.history; made = inside.made; fault = inside.fault } in
     let none : r.fault ≡ None = ap (λ (v : ReplayView). v.fault) c.self.view_is ∙ c.requires.sound in
@@ -55,7 +55,7 @@ returns-clause-replayed c =
     c.as_slice.ensures.value ∙ c.push_reply.ensures.bytes ∙ ap (λ (t : List ℕ). t ++ line_of (reply_words expected)) c.requires.front in (
       front-number who call line rest next.thread begins,
       λ es e is stands.
-          line-wrong s es e r _ who call expected line rest c.len-place.result none next c.requires.has_line begins c.in_ok-expected.ensures.reply (λ has same. c.ends_with_reply.ensures.no c.if-ends_with_reply.false has (same ∙ sym text))
+          line-wrong s es e r _ who call expected line rest c.len-place.result none next c.requires.has_line begins c.in_ok-call.ensures.reply (λ has same. c.ends_with_reply.ensures.no c.if-ends_with_reply.false has (same ∙ sym text))
           c.len-place.ensures c.call.ensures.boot refl refl is (subst (StandsFor s es) (sym c.self.view_is) stands),
     )
 

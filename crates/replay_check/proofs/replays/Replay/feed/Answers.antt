@@ -35,14 +35,14 @@ returns-then-not-same_reply-clause-fed c = λ es stands.
     let s = c.args.scenario.now in
     let e = c.args.entry.now in
     let inside = c.self.inside in
-    let expected = c.in_ok-expected.expected in
+    let expected = c.call.new.reply in
     let r : ReplayView = record { boot = inside.kernel.boot; history = inside.kernel.history; made = inside.made; fault = inside.fault } in
     let held : StandsFor s es r = subst (StandsFor s es) (sym c.self.view_is) stands in
     let none : r.fault ≡ None = none-from inside.fault (sym c.is_some.ensures ∙ c.if-is_some.false) in
     let within : e.who < 32 = subst (λ (n : ℕ). n < 32) c.get-thread.ensures.value c.get-thread.ensures.bound in
     let count : get_or inside.made c.get-thread.result 0 ≡ length (of_thread e.who es) = ap (λ (n : ℕ). get_or inside.made n 0) c.get-thread.ensures.value ∙ held.made none e.who within in
     let place : c.len-place.result ≡ length es = c.len-place.ensures ∙ ap length (held.history none) in
-    let due : expected ≡ reply_due s es e = c.in_ok-expected.ensures.reply ∙ ap₂ (λ (b : System) (h : List Entry). answer b (reverse h) e.who e.call) held.boot (held.history none) in
+    let due : expected ≡ reply_due s es e = c.in_ok-call.ensures.reply ∙ ap₂ (λ (b : System) (h : List Entry). answer b (reverse h) e.who e.call) held.boot (held.history none) in
     stands-wrong_reply s es e r _ (get_or inside.made c.get-thread.result 0) c.len-place.result expected held none count place
     (sym c.is_call_at.ensures.value ∙ c.if-not-is_call_at.false) due (sym c.same_reply.ensures ∙ c.if-not-same_reply.true) c.call.ensures.boot refl refl
 
@@ -64,18 +64,18 @@ returns-clause-fed c = λ es stands.
     let s = c.args.scenario.now in
     let e = c.args.entry.now in
     let inside = c.self.inside in
-    let expected = c.in_ok-expected.expected in
+    let expected = c.call.new.reply in
     let r : ReplayView = record { boot = inside.kernel.boot; history = inside.kernel.history; made = inside.made; fault = inside.fault } in
     let held : StandsFor s es r = subst (StandsFor s es) (sym c.self.view_is) stands in
     let none : r.fault ≡ None = none-from inside.fault (sym c.is_some.ensures ∙ c.if-is_some.false) in
     let within : e.who < 32 = subst (λ (n : ℕ). n < 32) c.get-thread.ensures.value c.get-thread.ensures.bound in
     let count : get_or inside.made c.get-thread.result 0 ≡ length (of_thread e.who es) = ap (λ (n : ℕ). get_or inside.made n 0) c.get-thread.ensures.value ∙ held.made none e.who within in
-    let due : expected ≡ reply_due s es e = c.in_ok-expected.ensures.reply ∙ ap₂ (λ (b : System) (h : List Entry). answer b (reverse h) e.who e.call) held.boot (held.history none) in
+    let due : expected ≡ reply_due s es e = c.in_ok-call.ensures.reply ∙ ap₂ (λ (b : System) (h : List Entry). answer b (reverse h) e.who e.call) held.boot (held.history none) in
     stands-right s es e r _ held none
     (ap (is_call_at s e.who e.call) (sym count) ∙ sym c.is_call_at.ensures.value ∙ c.if-not-is_call_at.false)
     (ap (same_reply e.reply) (sym due) ∙ sym c.same_reply.ensures ∙ c.if-not-same_reply.false)
     within c.call.ensures.boot
-    (c.in_ok-expected.ensures.entry ∙ ap (λ (x : Reply). inside.kernel.history ++ record { who = e.who; call = e.call; reply = x } ∷ []) due)
+    (c.in_ok-call.ensures.entry ∙ ap (λ (x : Reply). inside.kernel.history ++ record { who = e.who; call = e.call; reply = x } ∷ []) due)
     (ap (λ (n : ℕ). set inside.made n (get_or inside.made n 0 + 1)) c.get-thread.ensures.value)
     none
 
