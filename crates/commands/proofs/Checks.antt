@@ -3,15 +3,15 @@ use Rattle.std.proofs.Common.{◌≡◌, ℕ, ◌+◌, List, drop, Result, Ok, E
 use Rattle.kern_ids.specs.declared.entries.Entry.{Entry}
 use Rattle.kern_ids.specs.declared.faults.Why.{Why}
 use Rattle.kernel_model.specs.Scenario.{Plan}
-use Rattle.history_reading.specs.Histories.{history_of}
+use Rattle.history_text.specs.HistoryReading.{history_of}
 use Rattle.scenario_text.specs.Fronts.{Taken, front_taken}
 use Rattle.replay_check.specs.declared.verdicts.Verdict.{Verdict}
 use Rattle.replay_check.specs.declared.verdicts.Verdict.TheVariants as verdict
 use Rattle.replay_check.specs.Verdicts.{verdict_of}
-use Rattle.piece_check.specs.Pieces.{end_of}
-use Rattle.check_command.specs.Checks.{ended_by, check_of}
-use Rattle.history_reports.specs.declared.report.Judging.TheVariants.{Check}
-use Rattle.history_reports.specs.Reports.{Told, told, told_by, verdict_told, with_plan, behind, input_of, report_of}
+use Rattle.replay_check.specs.Pieces.{end_of}
+use Rattle.commands.specs.Checks.{ended_by, check_of}
+use Rattle.report_tables.specs.declared.report.Judging.TheVariants.{Check}
+use Rattle.report_tables.specs.Reports.{Told, told, told_by, verdict_told, with_plan, behind, input_of, report_of}
 use Rattle.commands.specs.Outcome.{told_of_end}
 
 verdict_by : (s : Plan) (h : List Entry) (v : Verdict) → told_by Check s h v ≡ verdict_told v

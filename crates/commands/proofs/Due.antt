@@ -1,5 +1,5 @@
 -- What is due, from how an input was read.
-use Rattle.std.proofs.Common.{◌≡◌, ◌≢◌, ◌∙◌, ◌≤◌, ◌<◌, ◌+◌, inl, inr, ℕ, zero, suc, List, [], ◌∷◌, length, take, Bool, true, false, Option, Some, None, Result, refl, sym, ap, subst, arith}
+use Rattle.std.proofs.Common.{◌≡◌, ◌≢◌, ◌∙◌, ◌≤◌, ◌<◌, ◌+◌, ◌⊎◌, inl, inr, ℕ, zero, suc, List, [], ◌∷◌, length, take, Bool, true, false, Option, Some, None, Result, refl, sym, ap, subst, arith}
 use Rattle.std.specs.Prelude.{OnErr, Contains, replicate, Ok, Err, nat_lt, if◌then◌else◌}
 use Rattle.std.proofs.lemmas.Bool.{le-ltb, lt-ltb}
 use Rattle.std.proofs.lemmas.List.{length-take-le, length-replicate}
@@ -7,14 +7,14 @@ use Rattle.std.specs.Io.KnownBytes.{Appends, Keeps}
 use Rattle.edge.specs.Ends.{ReadWhole, IsOver, AppendsFront}
 use Rattle.kern_ids.specs.declared.entries.Entry.{Entry}
 use Rattle.report_tables.specs.Summary.{summary_text}
-use Rattle.history_reports.specs.declared.report.Report.TheVariants as report
-use Rattle.piece_check.specs.declared.end.PieceEnd.{PieceEnd}
-use Rattle.check_command.specs.Checks.{IsChecked}
+use Rattle.report_tables.specs.declared.report.Report.TheVariants as report
+use Rattle.replay_check.specs.declared.end.PieceEnd.{PieceEnd}
+use Rattle.commands.specs.Checks.{IsChecked}
 use Rattle.commands.proofs.Checks.{check_told}
-use Rattle.history_reports.specs.declared.report.Judging.{Judging}
-use Rattle.history_reports.specs.declared.report.Judging.TheVariants.{Check}
-use Rattle.history_reports.specs.Reports.{Told, report_of}
-use Rattle.history_reports.proofs.Statuses.{report-status}
+use Rattle.report_tables.specs.declared.report.Judging.{Judging}
+use Rattle.report_tables.specs.declared.report.Judging.TheVariants.{Check}
+use Rattle.report_tables.specs.Reports.{Told, report_of}
+use Rattle.report_tables.proofs.Statuses.{report-status}
 use Rattle.kernel_model.specs.Scenario.{Plan}
 use Rattle.kern_ids.specs.declared.faults.Why.{Why}
 use Rattle.scenario_text.specs.Grammar.{scenario_of}
@@ -103,7 +103,7 @@ written_outcome words old new before now due held holds status (inl o) e wrote o
 written_outcome words old new before now due held holds status (inr f) e wrote other = absurd (other (e ∙ ap (λ (d : Due). d.0) f.1))
 
 -- the status of an answer is one of the program's
-pub due_of-listed : (a : Answer) (status : ℕ) → status ≡ (due_of a).0 → Contains (0 ∷ 2 ∷ 3 ∷ 4 ∷ 5 ∷ 6 ∷ 7 ∷ 8 ∷ 9 ∷ []) status
+due_of-listed : (a : Answer) (status : ℕ) → status ≡ (due_of a).0 → Contains (0 ∷ 2 ∷ 3 ∷ 4 ∷ 5 ∷ 6 ∷ 7 ∷ 8 ∷ 9 ∷ []) status
 due_of-listed (answer.Run s h) status e = (0, omega arith, rw e refl)
 due_of-listed (answer.Rewritten s) status e = (0, omega arith, rw e refl)
 due_of-listed (answer.Counted h) status e = (0, omega arith, rw e refl)
@@ -114,6 +114,12 @@ due_of-listed answer.BadWords status e = (1, omega arith, rw e refl)
 due_of-listed (answer.BadLine number why) status e = (2, omega arith, rw e refl)
 due_of-listed answer.ReadFault status e = (3, omega arith, rw e refl)
 due_of-listed (answer.TooLong limit) status e = (6, omega arith, rw e refl)
+
+-- so is the status of its writing
+pub written-listed : (a : Answer) (status : ℕ) → (status ≡ (due_of a).0) ⊎ ((status ≡ 5) ⊎ (status ≡ 9)) → Contains (0 ∷ 2 ∷ 3 ∷ 4 ∷ 5 ∷ 6 ∷ 7 ∷ 8 ∷ 9 ∷ []) status
+written-listed a status (inl e) = due_of-listed a status e
+written-listed a status (inr (inl e)) = (4, omega arith, sym e)
+written-listed a status (inr (inr e)) = (8, omega arith, sym e)
 
 -- no outcome has the status of a failed read
 not_four : (n : ℕ) → Contains (0 ∷ 6 ∷ 8 ∷ []) n → n ≡ 4 → ⊥

@@ -1,3 +1,11 @@
 pub mod Due
 pub mod NumberWords
 pub mod Checks
+pub mod Begins
+pub mod Fed
+pub mod Found
+pub mod Stopped
+pub mod Opened
+pub mod RunDue
+pub mod Headline
+pub mod Serial

@@ -3,7 +3,7 @@ use Rattle.std.specs.Prelude.{◌++◌}
 use Rattle.scenario_text.specs.Text.{scenario_text}
 use Rattle.history_text.specs.History.{history_text}
 use Rattle.report_tables.specs.Summary.{summary_text}
-use Rattle.history_reports.specs.Reports.{told_of}
+use Rattle.report_tables.specs.Reports.{told_of}
 use Rattle.commands.specs.declared.answer.Answer.{Answer}
 use Rattle.commands.specs.declared.answer.Answer.TheVariants as answer
 use Rattle.commands.specs.Messages.{bad_words, read_fault, too_long, bad_line}

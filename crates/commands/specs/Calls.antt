@@ -5,7 +5,7 @@ use Rattle.edge.specs.Ends.{Rose, AppendsFront}
 use Rattle.kernel_model.specs.Scenario.{Plan}
 use Rattle.line_text.specs.Cut.{Word}
 use Rattle.scenario_text.specs.Grammar.{scenario_of}
-use Rattle.history_reports.specs.Reports.{report_of}
+use Rattle.report_tables.specs.Reports.{report_of}
 use Rattle.commands.specs.declared.command.Reading.{Reading}
 use Rattle.commands.specs.declared.command.Reading.TheVariants.{Rewrite, Judge}
 use Rattle.commands.specs.declared.command.Command.{Command}
@@ -14,7 +14,7 @@ use Rattle.commands.specs.Commands.{command_of, asks_reading, limit_of}
 use Rattle.commands.specs.Messages.{read_fault}
 use Rattle.commands.specs.Outcome.{Due, outcome, outcome_of}
 
--- the bytes that were taken, where they are told: all that were left, or the limit and one byte
+-- the bytes that were taken, where they are known: all that were left, or the limit and one byte
 abbrev pub IsInput : ℕ → Option (List ℕ) → Option (List ℕ) → List ℕ → Type 0
 IsInput limit None new x = ⊤
 IsInput limit (Some left) new x =

@@ -4,7 +4,7 @@ use Rattle.std.specs.Result.{result_ok}
 use Rattle.std.specs.Str.{bytes_eq}
 use Rattle.line_text.specs.Cut.{Word}
 use Rattle.line_text.specs.Numbers.{number_in}
-use Rattle.history_reports.specs.declared.report.Judging.TheVariants.{Check, Table, Json, Why}
+use Rattle.report_tables.specs.declared.report.Judging.TheVariants.{Check, Table, Json, Why}
 use Rattle.commands.specs.declared.command.Rewriting.TheVariants.{Serial, Migrate}
 use Rattle.commands.specs.declared.command.Reading.{Reading}
 use Rattle.commands.specs.declared.command.Reading.TheVariants.{Rewrite, Judge}

@@ -3,3 +3,9 @@ pub mod Calls
 pub mod Commands
 pub mod Messages
 pub mod Outcome
+pub mod Checks
+pub mod Stops
+pub mod Openings
+pub mod RunOutcome
+pub mod RunCalls
+pub mod Top

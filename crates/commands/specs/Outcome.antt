@@ -9,9 +9,9 @@ use Rattle.scenario_text.specs.Text.{scenario_text}
 use Rattle.history_text.specs.History.{history_text}
 use Rattle.scenario_maker.specs.Made.{made_plan}
 use Rattle.report_tables.specs.Summary.{summary_text}
-use Rattle.piece_check.specs.declared.end.PieceEnd.{PieceEnd}
-use Rattle.piece_check.specs.declared.end.PieceEnd.TheVariants as end
-use Rattle.history_reports.specs.Reports.{Told, report_of, verdict_told}
+use Rattle.replay_check.specs.declared.end.PieceEnd.{PieceEnd}
+use Rattle.replay_check.specs.declared.end.PieceEnd.TheVariants as end
+use Rattle.report_tables.specs.Reports.{Told, report_of, verdict_told}
 use Rattle.commands.specs.declared.command.Rewriting.{Rewriting}
 use Rattle.commands.specs.declared.command.Rewriting.TheVariants.{Serial, Migrate}
 use Rattle.commands.specs.declared.command.Reading.{Reading}
@@ -42,7 +42,7 @@ abbrev pub reported : Result Told (ℕ × Why) → Due
 reported (Ok told) = told
 reported (Err fault) = (3, bad_line fault.0 fault.1)
 
--- what is told of the end of a check
+-- the report on the end of a check
 abbrev pub told_of_end : PieceEnd → Result Told (ℕ × Why)
 told_of_end (end.Done verdict) = Ok (verdict_told verdict)
 told_of_end (end.Bad line why) = Err (line, why)

@@ -9,12 +9,11 @@ use crate::messages::{bad_line, bad_words, read_fault, too_long};
 use edge::ends::{Failed, Sink};
 use edge::pieces::Both;
 use edge::writing::{WriteBuffer, write_pieces, write_whole};
-use history_reports::Report;
 use history_text::HistoryPieces;
 use kern_ids::entries::EntryList;
 use kern_ids::faults::Why;
 use kernel_model::scenario::Scenario;
-use report_tables::summary;
+use report_tables::{Report, summary};
 use scenario_text::ScenarioPieces;
 
 /// What the program answers.
@@ -26,7 +25,7 @@ pub enum Answer {
     Rewritten(Scenario),
     /// The counts of a history.
     Counted(EntryList),
-    /// What is told of a history.
+    /// The report on a history.
     Reported(Report),
     /// The words are those of no command.
     BadWords,

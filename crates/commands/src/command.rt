@@ -4,8 +4,8 @@ ghost use Rattle.std.specs.Prelude.{◌≡◌, ◌<◌, ◌≤◌, ◌^◌, IfSo
 ghost use Rattle.commands.specs.Commands.{asked_why, command_of, limit_of, made_by, making_named, named, number_to, IsInRange};
 
 use edge::words::Words;
-use history_reports::Judging;
 use line_text::{Words as LineWords, is_plain, is_word};
+use report_tables::Judging;
 
 /// What is done with a scenario that is read.
 #[derive(Clone, Copy, PartialEq, Eq, Debug)]

@@ -5,26 +5,26 @@ ghost use Rattle.std.specs.Io.KnownBytes.{Keeps};
 ghost use Rattle.scenario_text.specs.Grammar.{scenario_of};
 ghost use Rattle.commands.specs.Commands.{asks_reading};
 ghost use Rattle.commands.specs.declared.command.Reading.TheVariants.{Judge};
-ghost use Rattle.history_reports.specs.declared.report.Judging.TheVariants.{Check};
-ghost use Rattle.history_reports.specs.Reports.{report_of};
+ghost use Rattle.report_tables.specs.declared.report.Judging.TheVariants.{Check};
+ghost use Rattle.report_tables.specs.Reports.{report_of};
 ghost use Rattle.commands.specs.Outcome.{answered, made_outcome, read_outcome, reported, told_of_end};
 ghost use Rattle.commands.specs.Answers.{due_of};
 ghost use Rattle.commands.specs.Calls.{IsReadDue, IsDue};
 
 use crate::answer::Answer;
+use crate::check_source;
 use crate::command::{Command, Making, Reading, Rewriting, command_of};
-use check_command::check_source;
 use edge::ends::Source;
 use edge::reading::{InputFault, read_to_limit};
 use edge::words::Words;
-use history_reports::{Judging, tell, verdict_report};
 use kern_ids::entries::NoMemory;
 use kern_ids::faults::ReadFault;
-use piece_check::PieceEnd;
+use replay_check::PieceEnd;
+use report_tables::{Judging, tell, verdict_report};
 use scenario_maker::make_scenario;
 use scenario_text::read_scenario;
-use serial_run::run_serial;
 use std::alloc::Global;
+use thread_runner::serial::run_serial;
 
 // What is answered where the input is to be a scenario.
 fn answer_scenario(alloc: Global, rewriting: Rewriting, input: &[u8]) -> Result<Answer, NoMemory>

@@ -11,8 +11,8 @@ use Rattle.kern_ids.specs.declared.faults.Why.TheVariants as why
 use Rattle.kern_ids.specs.declared.entries.Entry.{Entry}
 use Rattle.line_text.specs.Cut.{lines_of}
 use Rattle.line_text.proofs.CutLemmas.{some_part}
-use Rattle.history_reading.specs.Histories.{history_of, line_says}
-use Rattle.history_reading.proofs.EntryLaws.{first_line}
+use Rattle.history_text.specs.HistoryReading.{history_of, line_says}
+use Rattle.history_text.proofs.EntryLaws.{first_line}
 use Rattle.history_feed.specs.declared.expected.Expected.{Expected}
 use Rattle.history_feed.specs.declared.expected.Expected.TheVariants as next
 use Rattle.history_feed.specs.declared.feed.HistoryFeed.{HistoryFeed}

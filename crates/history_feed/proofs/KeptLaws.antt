@@ -13,7 +13,7 @@ use Rattle.std.proofs.lemmas.List.Folds.{list_any-append, list_all-append}
 use Rattle.kern_ids.specs.declared.faults.Why.{Why}
 use Rattle.kern_ids.specs.declared.entries.Entry.{Entry}
 use Rattle.line_text.specs.Cut.{words_of}
-use Rattle.history_reading.specs.Histories.{line_says}
+use Rattle.history_text.specs.HistoryReading.{line_says}
 use Rattle.history_feed.specs.declared.kept_line.KeptLine.{KeptLine}
 use Rattle.history_feed.specs.Kept.{kept_of}
 use Rattle.history_feed.specs.LongLines.{long_fault}

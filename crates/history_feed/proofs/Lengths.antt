@@ -27,9 +27,9 @@ use Rattle.line_text.specs.Calls.{flag_word, fatal_word, call_arguments, call_wo
 use Rattle.line_text.proofs.DecimalLemmas.{hex_length}
 use Rattle.line_text.proofs.Lines.{line_of-cons}
 use Rattle.history_text.specs.Entries.{state_word, move_word, cause_word, refusal_words, entry_words, reply_word, reply_arguments, reply_words}
-use Rattle.history_reading.specs.Replies.{HasRefusal, HasReply}
-use Rattle.history_reading.specs.Entries.{entry_of, HasText}
-use Rattle.history_reading.proofs.EntryLaws.{entry_takes}
+use Rattle.history_text.specs.ReplyReading.{HasRefusal, HasReply}
+use Rattle.history_text.specs.EntryReading.{entry_of, HasText}
+use Rattle.history_text.proofs.EntryLaws.{entry_takes}
 
 -- ---- words no longer than that
 

@@ -17,8 +17,8 @@ use Rattle.kern_ids.specs.declared.entries.Entry.{Entry}
 use Rattle.line_text.specs.Cut.{Word, words_of, line_of}
 use Rattle.line_text.specs.Numbers.{is_plain}
 use Rattle.line_text.proofs.CutLemmas.{some_part}
-use Rattle.history_reading.specs.Entries.{entry_of}
-use Rattle.history_reading.specs.Histories.{closing_words, one_more, said_by, line_says}
+use Rattle.history_text.specs.EntryReading.{entry_of}
+use Rattle.history_text.specs.HistoryReading.{closing_words, one_more, said_by, line_says}
 use Rattle.history_feed.specs.Lines.{ended_of, rest_of}
 use Rattle.history_feed.specs.LongLines.{long_done, long_fault}
 use Rattle.history_feed.proofs.Splits.{joined_to, split-append}

@@ -1,9 +1,9 @@
 -- A line that is taken unread.
 use Rattle.std.proofs.Common.{◌≡◌, ℕ, zero, suc, ◌+◌, ◌<◌, List, [], ◌∷◌, ◌++◌, length, take, Option, Some, None, refl, sym, ap, ◌∙◌, arith, subst, false, is_some}
 use Rattle.kern_ids.specs.declared.entries.Entry.{Entry}
-use Rattle.history_reading.specs.Entries.{IsLineOf}
-use Rattle.history_reading.specs.Histories.{line_says}
-use Rattle.history_reading.proofs.HistoryLaws.{entry_says}
+use Rattle.history_text.specs.EntryReading.{IsLineOf}
+use Rattle.history_text.specs.HistoryReading.{line_says}
+use Rattle.history_text.proofs.HistoryLaws.{entry_says}
 use Rattle.history_feed.specs.declared.expected.Expected.TheVariants as next
 use Rattle.history_feed.specs.declared.feed.HistoryFeed.{HistoryFeed}
 use Rattle.history_feed.specs.declared.kept_line.KeptLine.{KeptLine}

@@ -11,9 +11,9 @@ use Rattle.kern_ids.specs.declared.entries.Entry.{Entry}
 use Rattle.line_text.specs.Cut.{Word, words_of, line_of}
 use Rattle.line_text.specs.Numbers.{is_plain}
 use Rattle.history_text.specs.Entries.{entry_words}
-use Rattle.history_reading.specs.Entries.{entry_of, HasText}
-use Rattle.history_reading.specs.Histories.{closing_words, one_more, said_by, line_says}
-use Rattle.history_reading.proofs.EntryLaws.{entry_takes}
+use Rattle.history_text.specs.EntryReading.{entry_of, HasText}
+use Rattle.history_text.specs.HistoryReading.{closing_words, one_more, said_by, line_says}
+use Rattle.history_text.proofs.EntryLaws.{entry_takes}
 
 abbrev pub said : Option Entry → Result (Option Entry) Why
 said x = Ok x

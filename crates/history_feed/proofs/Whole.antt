@@ -7,8 +7,8 @@ use Rattle.kern_ids.specs.declared.faults.Why.TheVariants as why
 use Rattle.kern_ids.specs.declared.entries.Entry.{Entry}
 use Rattle.line_text.specs.Cut.{lines_of}
 use Rattle.line_text.proofs.CutLemmas.{some_part}
-use Rattle.history_reading.specs.Histories.{line_says, closed, entries_from, opened, history_of}
-use Rattle.history_reading.proofs.LineLemmas.{go, entries-next, entries-last, opened-next, opened-last}
+use Rattle.history_text.specs.HistoryReading.{line_says, closed, entries_from, opened, history_of}
+use Rattle.history_text.proofs.LineLemmas.{go, entries-next, entries-last, opened-next, opened-last}
 use Rattle.history_feed.specs.declared.expected.Expected.TheVariants as next
 use Rattle.history_feed.specs.Lines.{ended_of, rest_of}
 use Rattle.history_feed.specs.Left.{Fault, Place, said_entry, said_of, moved, over, with_rest, left_by, whole_of}

@@ -4,7 +4,7 @@ use Rattle.kern_ids.specs.declared.faults.Why.{Why}
 use Rattle.kern_ids.specs.declared.entries.Entry.{Entry}
 use Rattle.line_text.specs.Cut.{lines_of}
 use Rattle.history_text.specs.Entries.{entry_text}
-use Rattle.history_reading.specs.Entries.{HasText, IsLineOf}
+use Rattle.history_text.specs.EntryReading.{HasText, IsLineOf}
 use Rattle.history_feed.specs.declared.expected.Expected.TheVariants as next
 use Rattle.history_feed.specs.declared.feed.HistoryFeed.{HistoryFeed}
 use Rattle.history_feed.specs.Lines.{line_end}
@@ -15,7 +15,7 @@ use Rattle.history_feed.specs.Left.{Fault, Place, Said, said_of, moved, left_by,
 abbrev pub first_line_of : HistoryFeed → ℕ
 first_line_of f = f.first
 
--- no fault so far: the feed keeps this place, and facts on the bytes behind the last line feed
+-- no fault so far: the feed keeps this place, and facts on the bytes after the last line feed
 pub record Keeps (f : HistoryFeed) (p : Place) (rest : List ℕ) : Type 0 where
   pub sound : f.fault ≡ None
   pub line : f.line ≡ p.line
@@ -36,7 +36,7 @@ StandsFor f text = KeepsLeft f (left_by f.first text) (rest_behind text)
 abbrev pub HasRoom : HistoryFeed → ℕ → Type 0
 HasRoom f more = f.fault ≡ None → f.line + f.rest.len + more < 2 ^ 32
 
--- bytes are taken up to the end of one line; behind a fault all are
+-- bytes are taken up to the end of one line; after a fault all are
 abbrev pub taken_until : Option Fault → List ℕ → ℕ
 taken_until None piece = line_end (lines_of piece)
 taken_until (Some d) piece = length piece
@@ -55,7 +55,7 @@ abbrev pub given_by : Result Said Why → Option Entry
 given_by (Ok said) = said.entry
 given_by (Err d) = None
 
--- the entry whose line is the first that is ended in these lines, behind bytes that leave this
+-- the entry whose line is the first that is ended in these lines, after bytes that leave this
 abbrev pub entry_ended : Result Place Fault → List ℕ → List (List ℕ) → Option Entry
 entry_ended (Ok p) rest [] = None
 entry_ended (Ok p) rest (last ∷ []) = None
@@ -67,12 +67,12 @@ pub record IsTextOf (bytes : List ℕ) (e : Entry) : Type 0 where
   pub text : bytes ≡ entry_text e
   pub sound : HasText e
 
--- behind a line: what was said of it is kept, and its entry is given
+-- after a line: what was said of it is kept, and its entry is given
 pub record IsEnded (f : HistoryFeed) (given : Option Entry) (p : Place) (said : Result Said Why) : Type 0 where
   pub stands : KeepsLeft f (moved p said) []
   pub entry : given ≡ given_by said
 
--- what holds of the feed and of the entry given behind bytes taken from a piece
+-- what holds of the feed and of the entry given after bytes taken from a piece
 pub record IsFed (old new : HistoryFeed) (given : Option Entry) (text piece taken : List ℕ) : Type 0 where
   pub stands : StandsFor new (text ++ taken)
   pub entry : given ≡ entry_ended (left_by old.first text) (rest_behind text) (lines_of piece)

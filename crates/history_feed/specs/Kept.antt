@@ -4,6 +4,6 @@ use Rattle.std.specs.List.{list_any, list_all}
 use Rattle.std.specs.Char.{is_ascii_digit}
 use Rattle.history_feed.specs.declared.kept_line.KeptLine.{KeptLine}
 
--- its first 1,100 bytes, its length, and of the bytes behind them whether one is a space and whether all are digits
+-- its first 1,100 bytes, its length, and of the bytes after them whether one is a space and whether all are digits
 unfoldable pub kept_of : List ℕ → KeptLine
 kept_of line = record { head = take 1100 line; len = length line; spaced = list_any (λ b. b == 32) (drop 1100 line); digits = list_all is_ascii_digit (drop 1100 line) }

@@ -5,7 +5,7 @@ use Rattle.kern_ids.specs.declared.faults.Why.{Why}
 use Rattle.kern_ids.specs.declared.faults.Why.TheVariants as why
 use Rattle.kern_ids.specs.declared.entries.Entry.{Entry}
 use Rattle.line_text.specs.Cut.{lines_of}
-use Rattle.history_reading.specs.Histories.{line_says}
+use Rattle.history_text.specs.HistoryReading.{line_says}
 use Rattle.history_feed.specs.declared.expected.Expected.{Expected}
 use Rattle.history_feed.specs.declared.expected.Expected.TheVariants as next
 use Rattle.history_feed.specs.Lines.{ended_of, rest_of}
@@ -20,7 +20,7 @@ pub record Place : Type 0 where
   pub line : ℕ
   pub next : Expected
 
--- what a line that is in its place says: what is expected behind it, and the entry that it is, if it is one
+-- what a line that is in its place says: what is expected after it, and the entry that it is, if it is one
 pub record Said : Type 0 where
   pub expected : Expected
   pub entry : Option Entry
@@ -31,28 +31,28 @@ said_entry (Ok (Some e)) = Ok (record { expected = next.Entries; entry = Some e 
 said_entry (Ok None) = Ok (record { expected = next.Nothing; entry = None })
 said_entry (Err d) = Err d
 
--- what a line says where that is expected, behind so many entries
+-- what a line says where that is expected, after so many entries
 abbrev pub said_of : Expected → ℕ → List ℕ → Result Said Why
 said_of next.Opening count line = if bytes_eq line (codes "history") then Ok (record { expected = next.Entries; entry = None }) else Err why.Word
 said_of next.Entries count line = said_entry (line_says count line)
 said_of next.Nothing count line = Err why.AfterEnd
 
--- behind a line that said so
+-- after a line that said so
 abbrev pub moved : Place → Result Said Why → Result Place Fault
 moved p (Ok said) = Ok (record { entries = p.entries ++ option_to_list said.entry; line = p.line + 1; next = said.expected })
 moved p (Err d) = Err (p.line, d)
 
--- behind a line
+-- after a line
 abbrev pub after : Result Place Fault → List ℕ → Result Place Fault
 after (Ok p) line = moved p (said_of p.next (length p.entries) line)
 after (Err f) line = Err f
 
--- behind lines, one after another
+-- after lines, one after another
 unfoldable pub over : Result Place Fault → List (List ℕ) → Result Place Fault
 over left [] = left
 over left (line ∷ lines) = over (after left line) lines
 
--- no byte may stand behind the closing line
+-- no byte may come after the closing line
 abbrev pub one_byte : Expected → Place → Result Place Fault
 one_byte next.Opening p = Ok p
 one_byte next.Entries p = Ok p

@@ -1,4 +1,4 @@
--- The lines of a text that are ended, and what stands behind them.
+-- The lines of a text that are ended, and what comes after them.
 use Rattle.std.specs.Prelude.{ℕ, ◌+◌, List, [], ◌∷◌, length}
 
 -- all parts but the last

@@ -1,4 +1,4 @@
--- Why a line of more than 1,100 bytes is refused behind the opening line: by the words of its first 1,100 bytes, whether a space and whether digits alone stand behind them.
+-- Why a line of more than 1,100 bytes is refused after the opening line: by the words of its first 1,100 bytes, whether a space and whether digits alone come after them.
 use Rattle.std.specs.Prelude.{List, [], ◌∷◌, Bool, ◌&&◌, codes, if◌then◌else◌}
 use Rattle.std.specs.Str.{bytes_eq}
 use Rattle.kern_ids.specs.declared.faults.Why.{Why}

@@ -3,8 +3,8 @@
 ghost use Rattle.std.specs.Prelude.{◌≡◌, ◌<◌, ◌≤◌, ◌+◌, ◌++◌, ◌^◌, ℕ, List, [], length, take, None, Some, IfSome, MatchOption};
 ghost use Rattle.line_text.specs.Cut.{lines_of};
 ghost use Rattle.kern_ids.specs.declared.entries.Entry.{Entry as AnEntry};
-ghost use Rattle.history_reading.specs.Entries.{HasText, IsLineOf};
-ghost use Rattle.history_reading.specs.Histories.{history_of};
+ghost use Rattle.history_text.specs.EntryReading.{HasText, IsLineOf};
+ghost use Rattle.history_text.specs.HistoryReading.{history_of};
 ghost use Rattle.history_feed.specs.Kept.{kept_of};
 ghost use Rattle.history_feed.specs.Left.{Place, said_of, left_by, rest_behind, one_byte, whole_of};
 ghost use Rattle.history_feed.specs.Feeds.{first_line_of, Keeps, KeepsLeft, IsEnded, StandsFor, HasRoom, taken_of, entry_ended, IsTextOf, Gives, IsFed, IsNextLine, IsEntryLine, count_of};
@@ -25,8 +25,8 @@ pub struct Fed {
     pub entry: Option<Entry>,
 }
 
-/// What is kept of the bytes of a history so far. It takes no memory: of a line that is not ended yet it holds
-/// at most 1,100 bytes.
+/// What is kept of the bytes of a history so far. It takes no memory: of a line that is not ended yet it
+/// holds at most 1,100 bytes.
 #[derive(Drop)]
 pub struct HistoryFeed {
     first: u32,
@@ -58,7 +58,7 @@ impl HistoryFeed {
         }
     }
 
-    // The line behind the one that is kept begins.
+    // The line after the one that is kept begins.
     fn begin_line(&mut self, expected: Expected)
         requires { self.old.line + 1 < 2 ^ 32 }
         ensures same { (self.new.first ≡ self.old.first) × (self.new.entries ≡ self.old.entries) × (self.new.fault ≡ self.old.fault) }
@@ -164,8 +164,8 @@ impl HistoryFeed {
         }
     }
 
-    /// Takes bytes of the piece up to the end of one line, or all of them where no line is ended or there was a
-    /// fault before. The others are to be fed again.
+    /// Takes bytes of the piece up to the end of one line, or all of them where no line is ended or there was
+    /// a fault before. The others are to be fed again.
     pub fn feed(&mut self, piece: &[u8]) -> Fed
         requires { HasRoom self.old (length piece.now) }
 
@@ -176,7 +176,7 @@ impl HistoryFeed {
         // Where there was room for more bytes, there still is.
         ensures room { (more : ℕ) → HasRoom self.old (result.taken + more) → HasRoom self.new more }
 
-        // Whatever bytes it stood for, it stands for those and the bytes taken.
+        // Whatever bytes it represented, it represents those and the bytes taken.
         ensures first { first_line_of self.new ≡ first_line_of self.old }
         ensures stands { (text : List ℕ) → StandsFor self.old text → StandsFor self.new (text ++ take result.taken piece.now) }
 
@@ -197,8 +197,8 @@ impl HistoryFeed {
         }
     }
 
-    /// The line that the piece begins with, without its line feed, where the piece ends it, no byte of it came before, and
-    /// an entry may stand in its place. None where there is no such line.
+    /// The line that the piece begins with, without its line feed, where the piece ends it, no byte of it
+    /// came before, and an entry may be in its place. None where there is no such line.
     pub fn next_line<'a>(&self, piece: &'a [u8]) -> Option<&'a [u8]>
         ensures { MatchOption result ((line : List ℕ) → IsNextLine self.now piece.now line → ⊥) (λ line. IsNextLine self.now piece.now line.now) }
     {
@@ -220,8 +220,8 @@ impl HistoryFeed {
         }
     }
 
-    /// Takes that line with its end, where it is known that it is an entry's: as `feed` does, but it doesn't look at it.
-    /// The number of the bytes that are taken.
+    /// Takes that line with its end, where it is known that it is an entry's: as `feed` does, but it doesn't
+    /// look at it. The number of the bytes that are taken.
     pub fn pass(&mut self, _piece: &[u8], line: &[u8]) -> usize
         requires next { IsNextLine self.old _piece.now line.now }
         requires entry { IsEntryLine line.now }
@@ -231,7 +231,7 @@ impl HistoryFeed {
         // Where there was room for more bytes, there still is.
         ensures room { (more : ℕ) → HasRoom self.old (result + more) → HasRoom self.new more }
         ensures first { first_line_of self.new ≡ first_line_of self.old }
-        // Whatever bytes it stood for, it stands for those and the bytes taken,
+        // Whatever bytes it represented, it represents those and the bytes taken,
         ensures stands { (text : List ℕ) → StandsFor self.old text → StandsFor self.new (text ++ take result _piece.now) }
         // and by the entry of the line the entries grow.
         ensures gives { (text : List ℕ) (e : AnEntry) → IsLineOf line.now e → StandsFor self.old text → Gives (Some e) (left_by (first_line_of self.old) text) (left_by (first_line_of self.old) (text ++ take result _piece.now)) }

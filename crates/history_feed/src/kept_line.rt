@@ -4,12 +4,12 @@ ghost use Rattle.std.specs.Prelude.{◌≡◌, ◌<◌, ◌+◌, ◌++◌, ◌^�
 ghost use Rattle.std.specs.List.{list_any, list_all};
 ghost use Rattle.std.specs.Char.{is_ascii_digit};
 ghost use Rattle.std.specs.Str.{bytes_eq};
-ghost use Rattle.history_reading.specs.Entries.{HasText};
-ghost use Rattle.history_reading.specs.Histories.{line_says};
+ghost use Rattle.history_text.specs.EntryReading.{HasText};
+ghost use Rattle.history_text.specs.HistoryReading.{line_says};
 ghost use Rattle.history_feed.specs.Kept.{kept_of};
 
 use crate::long_line::long_fault;
-use history_reading::take_line;
+use history_text::take_line;
 use kern_ids::entries::Entry;
 use kern_ids::faults::Why;
 use kern_ids::lines::LineBuf;
@@ -17,7 +17,7 @@ use line_text::is_word;
 
 const MOST: usize = 1100;
 
-/// The first 1,100 bytes of a line, its length, and of what stands behind those bytes whether there is a space
+/// The first 1,100 bytes of a line, its length, and of what comes after those bytes whether there is a space
 /// and whether there are digits alone.
 #[derive(Drop)]
 pub struct KeptLine {
@@ -100,7 +100,7 @@ impl KeptLine {
         is_word(self.head.as_slice(), b"history")
     }
 
-    /// What the line is behind so many entries.
+    /// What the line is after so many entries.
     pub fn says(&self, count: u32) -> Result<Option<Entry>, Why>
         ensures value { (line : List ℕ) → self.now ≡ kept_of line → line_says count line ≡ result }
         ensures room { IfOk result (λ said. IfSome said (λ _. count < 200000)) }

@@ -6,7 +6,5 @@ mod expected;
 mod feed;
 mod kept_line;
 mod long_line;
-#[cfg(test)]
-mod tests;
 
 pub use feed::{Fed, HistoryFeed};

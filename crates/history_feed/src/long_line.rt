@@ -7,7 +7,7 @@ ghost use Rattle.history_feed.specs.LongLines.{long_done, long_fault};
 use kern_ids::faults::Why;
 use line_text::{Words, is_plain, is_word};
 
-// Why a closing line is refused whose words behind the first begin with these.
+// Why a closing line is refused whose words after the first begin with these.
 fn long_done(words: &mut Words<'_>, spaced: bool, digits: bool) -> Why
     ensures { result ≡ long_done words.old spaced digits }
 {
@@ -25,8 +25,8 @@ fn long_done(words: &mut Words<'_>, spaced: bool, digits: bool) -> Why
     }
 }
 
-/// Why a line of more than 1,100 bytes is refused where an entry or the closing line is expected: by its first
-/// 1,100 bytes, and whether a space, and whether digits alone stand behind them.
+/// Why a line of more than 1,100 bytes is refused where an entry or the closing line is expected: by its
+/// first 1,100 bytes, and whether a space, and whether digits alone come after them.
 pub fn long_fault(head: &[u8], spaced: bool, digits: bool) -> Why
     ensures { result ≡ long_fault (words_of head.now) spaced digits }
 {

@@ -20,7 +20,7 @@ pub(crate) fn no_counts(alloc: Global, n: usize) -> Result<Vec<Option<u32>>, NoM
     Ok(counts)
 }
 
-/// A count after one tick more: it stands still at the delay.
+/// A count after one tick more: it stays at the delay.
 fn next_count(delay: u32, count: Option<u32>) -> Option<u32>
     ensures { result ≡ option_map (one_more delay) count }
 {

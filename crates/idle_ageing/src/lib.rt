@@ -6,8 +6,6 @@ ghost use Rattle.idle_ageing.specs.Ageing.{aged, ticked, IsPaired};
 
 mod counts;
 mod reached;
-#[cfg(test)]
-mod tests;
 
 use counts::no_counts;
 use kern_ids::entries::NoMemory;

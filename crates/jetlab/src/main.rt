@@ -1,16 +1,16 @@
 //! The program: it takes its words, standard input and standard output, and ends with the exit status.
 #![tactic(auto)]
 
+use commands::jetlab_top;
 use edge::host::{StdSink, StdSource};
 use edge::words::Words;
 use kern_ids::entries::NoMemory;
 use kernel_shared::gate::NoGate;
-use run_command::jetlab_top;
 use std::env;
 use std::io::ErrorKind;
 use std::process::ExitCode;
 
-// The words behind the program's name. Where they can't be had, as where one is no UTF-8, there is the
+// The words after the program's name. Where they can't be had, as where one is no UTF-8, there is the
 // empty word alone, which is no command.
 fn words_given(rt: &HostRuntime) -> Result<Words, NoMemory> {
     let mut words = Words::new(rt.alloc());

@@ -4,8 +4,6 @@
 ghost use Rattle.std.specs.Prelude.{◌≡◌, ◌<◌, length};
 ghost use Rattle.jetsam_pick.specs.Victims.{HoldLive, KillsLive, verdict, least_task, over_fatal, over_soft, is_eligible};
 
-#[cfg(test)]
-mod tests;
 pub mod verdict;
 
 use kern_ids::ids::{Band, TaskId};

@@ -8,5 +8,3 @@ pub mod faults;
 pub mod ids;
 pub mod lines;
 pub mod replies;
-#[cfg(test)]
-mod tests;

@@ -1,6 +1,6 @@
 //! The kernel of one thread.
 
-ghost use Rattle.std.specs.Prelude.{◌≡◌, ◌≤◌, ◌-◌, ◌++◌, ◌∷◌, [], reverse, IsTrue, IfOk, OnOk};
+ghost use Rattle.std.specs.Prelude.{◌≡◌, ◌≤◌, ◌<◌, ◌^◌, ◌-◌, ◌++◌, ◌∷◌, [], length, reverse, IsTrue, IsOk, IfOk, OnOk};
 ghost use Rattle.kernel_model.specs.Answers.{answer};
 ghost use Rattle.kernel_model.specs.Histories.{fits, Legal};
 ghost use Rattle.kernel_model.specs.Pages.{free};
@@ -8,10 +8,11 @@ ghost use Rattle.kernel_tables.specs.Stands.{Stands};
 ghost use Rattle.kernel_core.specs.Kernels.{SeesBytes};
 ghost use Rattle.kernel_core.specs.Need.{need};
 
+use crate::log::{Log, MOST};
 use crate::need::{Need, named};
 use crate::over::{free_over, purged_over, step_over};
 use kern_ids::calls::Call;
-use kern_ids::entries::{Entry, EntryList, NoMemory};
+use kern_ids::entries::NoMemory;
 use kern_ids::ids::ThreadId;
 use kern_ids::lines::ByteLine;
 use kern_ids::replies::Reply;
@@ -20,64 +21,63 @@ use kernel_tables::tables::Tables;
 use std::alloc::Global;
 use std::marker::Model;
 
-/// The most entries that a history has.
-const MOST: usize = 4_294_967_296;
-
-/// What it began with, a legal history, and room for more entries. Its answers come from tables that stand for the
-/// history, and never from the entries.
+/// What it began with, a log with a legal history, and room for more entries. Its answers come from tables
+/// that represent the history, and never from the entries.
 #[derive(Drop)]
-pub struct Kernel {
+pub struct Kernel<L: Log> {
     tables: Tables,
-    entries: EntryList,
+    log: L,
     /// For how many more entries there is room.
     room: usize,
 }
 
-impl Model for Kernel {
+impl<L: Log> Model for Kernel<L> {
     ghost use Rattle.kernel_core.specs.Kernels.{KernelView, KeepsHistory};
 
     ghost Value = { KernelView };
 
-    ghost view = { λ k. record { boot = k.tables.boot; history = k.entries.list; spare = k.room } };
+    ghost view = { λ k. record { boot = k.tables.boot; history = L.list k.log; spare = k.room } };
 
-    ghost invariant = { λ k. KeepsHistory k.tables k.entries.list k.entries.spare k.room };
+    ghost invariant = { λ k. KeepsHistory k.tables (L.list k.log) (L.spare k.log) k.room };
 }
 
-// Appends an entry.
-fn record(entries: &mut EntryList, who: ThreadId, call: &Call, reply: &Reply)
-    requires { 1 ≤ entries.old.spare }
-    ensures list { entries.new.list ≡ entries.old.list ++ record { who = who; call = call.now; reply = reply.now } ∷ [] }
-    ensures spare { entries.new.spare ≡ entries.old.spare - 1 }
-{
-    entries.push(Entry {
-        who,
-        call: *call,
-        reply: *reply,
-    });
-}
-
-impl Kernel {
-    /// A kernel with no entries.
-    pub fn boot(alloc: Global, boot: &Boot) -> Result<Kernel, NoMemory>
+impl<L: Log> Kernel<L> {
+    /// A kernel over a log with no entries.
+    pub fn boot(alloc: Global, boot: &Boot, log: L) -> Result<Kernel<L>, NoMemory>
+        requires { L.list log ≡ [] }
         ensures boot { IfOk result (λ k. k.boot ≡ boot.now) }
         ensures empty { IfOk result (λ k. k.history ≡ []) }
     {
         let tables = Tables::boot(alloc, boot)?;
         Ok(Kernel {
             tables,
-            entries: EntryList::new(alloc),
+            log,
             room: 0,
         })
     }
 
-    /// The history.
-    pub fn history(&self) -> &EntryList
-        ensures { result.now.list ≡ self.now.history }
+    /// How many entries the history has.
+    pub fn len(&self) -> usize
+        ensures { result ≡ length self.now.history }
     {
-        &self.entries
+        self.log.count()
     }
 
-    /// The tables, which stand for the history.
+    /// For how many more entries there is room.
+    pub fn spare(&self) -> usize
+        ensures { result ≡ self.now.spare }
+    {
+        self.room
+    }
+
+    /// The log, which has the history.
+    pub fn log(&self) -> &L
+        ensures { L.list result.now ≡ self.now.history }
+    {
+        &self.log
+    }
+
+    /// The tables, which represent the history.
     pub fn tables(&self) -> &Tables
         ensures stands { Stands result.now (reverse self.now.history) }
         ensures boot { result.now.boot ≡ self.now.boot }
@@ -92,72 +92,76 @@ impl Kernel {
         let _tables = &self.tables;
     }
 
-    /// For how many more entries there is room. A history has at most 2^32 entries.
+    /// Makes room for n more entries, and takes no memory where there is room. A history has at most 2^32
+    /// entries.
     pub fn reserve(&mut self, n: usize) -> Result<(), NoMemory>
         ensures room { OnOk result (n ≤ self.new.spare) }
+        ensures ready { n ≤ self.old.spare → IsOk result }
+        ensures kept { self.old.spare ≤ self.new.spare }
         ensures boot { self.new.boot ≡ self.old.boot }
         ensures history { self.new.history ≡ self.old.history }
     {
         if n <= self.room {
             return Ok(());
         }
-        let count = self.entries.len();
+        let count = self.log.count();
         if MOST < count || MOST - count < n {
             return Err(NoMemory);
         }
-        self.entries.reserve(n)?;
+        self.log.make_room(n)?;
         self.room = n;
         Ok(())
     }
 
     /// The free frames. Takes no memory.
-    pub fn free(&self) -> u32
-        ensures { result ≡ free self.now.boot (reverse self.now.history) }
+    pub fn free(&self) -> u64
+        ensures value { result ≡ free self.now.boot (reverse self.now.history) }
+        ensures small { result < 2 ^ 32 }
     {
-        free_over(&self.tables, self.entries.as_slice())
+        u64::from(free_over(&self.tables, &self.log))
     }
 
-    /// The history alone. Takes no memory.
-    pub fn into_history(self) -> EntryList
-        ensures { result.list ≡ self.history }
+    /// The log alone. Takes no memory.
+    pub fn into_log(self) -> L
+        ensures { L.list result ≡ self.history }
     {
         let Kernel {
             tables: _,
-            entries,
+            log,
             room: _,
         } = self;
-        entries
+        log
     }
 
-    /// The object whose bytes the call reads or may change, if it were made now: one that it names, or the one
-    /// that it would purge. Takes no memory.
+    /// The object whose bytes the call reads or may change, if it were made now: one that it names, or the
+    /// one that it would purge. Takes no memory.
     pub fn need(&self, who: ThreadId, call: &Call) -> Need
         requires { IsTrue (fits self.now.boot who call.now) }
         ensures { result ≡ need self.now.boot (reverse self.now.history) who call.now }
     {
         match named(call) {
             Need::Bytes(o) => Need::Bytes(o),
-            Need::Nothing => match purged_over(&self.tables, self.entries.as_slice(), who, call) {
+            Need::Nothing => match purged_over(&self.tables, &self.log, who, call) {
                 Some(o) => Need::Bytes(o),
                 None => Need::Nothing,
             },
         }
     }
 
-    /// Makes a call: answers it, and appends its entry. A Read in range is given the bytes that the history gives
-    /// to its object. Takes no memory, and always answers.
-    pub fn step(&mut self, who: ThreadId, call: Call, seen: ByteLine) -> Reply
-        requires fits { IsTrue (fits self.old.boot who call) }
+    /// Makes a call: `reply` is then its answer, and its entry is the history's last. A Read in range is
+    /// given the bytes that the history gives to its object. Takes no memory, and always answers.
+    pub fn step(&mut self, who: ThreadId, call: &Call, seen: ByteLine, reply: &mut Reply)
+        requires fits { IsTrue (fits self.old.boot who call.now) }
         requires room { 1 ≤ self.old.spare }
-        requires seen { SeesBytes self.old.boot self.old.history call seen }
-        ensures reply { result ≡ answer self.old.boot (reverse self.old.history) who call }
-        ensures entry { self.new.history ≡ self.old.history ++ record { who = who; call = call; reply = result } ∷ [] }
+        requires seen { SeesBytes self.old.boot self.old.history call.now seen }
+        ensures reply { reply.new ≡ answer self.old.boot (reverse self.old.history) who call.now }
+        ensures entry { self.new.history ≡ self.old.history ++ record { who = who; call = call.now; reply = reply.new } ∷ [] }
         ensures boot { self.new.boot ≡ self.old.boot }
         ensures spare { self.new.spare ≡ self.old.spare - 1 }
+        ensures legal { Legal self.new.boot self.new.history }
     {
-        let reply = step_over(&mut self.tables, self.entries.as_slice(), who, &call, seen);
-        record(&mut self.entries, who, &call, &reply);
+        step_over(&mut self.tables, &self.log, who, call, seen, reply);
+        self.log.append(who, call, reply);
         self.room -= 1;
-        reply
     }
 }

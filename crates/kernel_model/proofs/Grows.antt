@@ -5,14 +5,14 @@ use Rattle.std.specs.Prelude.{slice_get, option_and_then, sum_by}
 use Rattle.std.proofs.lemmas.Bool.{and_parts, and_from, ltb-true, ltb-false, lt-ltb}
 use Rattle.std.proofs.lemmas.Bool.Decides.{eqb_tells}
 use Rattle.std.proofs.lemmas.List.{length-append, length-set, get_or-set_same, get_or-set_other, get_or_append_left, get_or-append-add}
-use Rattle.std.proofs.lemmas.List.Elements.{All-push}
+use Rattle.std.proofs.lemmas.List.Elements.{All-nil, All-push, All-set}
 use Rattle.std.proofs.lemmas.List.Sums.{sum_by-append, sum_by-set}
 use Rattle.kern_ids.specs.declared.calls.Call.{Call}
 use Rattle.kern_ids.specs.declared.calls.Call.TheVariants.{Map, Unmap, Write, Read, SetState, GetState, Active, Ledger, Exit, PurgeOne, Forced, Scan, Tick, Jetsam, SetBand, SetLimits, Info, Purgeables, Attach}
 use Rattle.kernel_model.specs.declared.boot.ObjBoot.{ObjBoot}
 use Rattle.kernel_model.specs.declared.boot.Side.{Side}
 use Rattle.kernel_model.specs.System.{System}
-use Rattle.kernel_model.specs.Valid.{IsValidObject, IsValidSide}
+use Rattle.kernel_model.specs.Valid.{IsValidObject, IsValidSide, IsValidCall}
 use Rattle.kernel_model.specs.Histories.{fits, names_fit, declares_object, is_task_call, same}
 use Rattle.kernel_model.specs.Events.{task_of, task_of_side}
 use Rattle.kernel_model.specs.Scenario.{Plan, IsValid, script, call_count}
@@ -35,6 +35,9 @@ split_lt n m = elim (bool_cases (ltb n m)) [ inl below ↦ inl (ltb-true n m bel
 
 below_more : {A : Type 0} (xs : List A) (x : A) (n : ℕ) → IsTrue (ltb n (length xs)) → IsTrue (ltb n (length (xs ++ x ∷ [])))
 below_more xs x n h = lt-ltb n (length (xs ++ x ∷ [])) (omega (arith, ltb-true n (length xs) h, length-append xs (x ∷ [])))
+
+abbrev HaveRanges : List Call → Type 0
+HaveRanges script = All IsValidCall script
 
 abbrev with_object : System → ObjBoot → System
 with_object b o = record b { objects = b.objects ++ o ∷ [] }
@@ -81,8 +84,10 @@ object_more s o room valid v = record {
   };
   form = v.form;
   tasks = v.tasks;
+  bands = v.bands;
   scripts = v.scripts;
   calls = λ n l. All-map (λ c. IsTrue (fits s.boot n c)) (λ c. IsTrue (fits (with_object s.boot o) n c)) (script s n) (λ c. object_fits s.boot o n c) (v.calls n l);
+  ranges = v.ranges;
   few_calls = v.few_calls;
   order = v.order;
   few_turns = v.few_turns;
@@ -124,6 +129,7 @@ thread_more s side room valid v =
       };
       form = v.form;
       tasks = v.tasks;
+      bands = v.bands;
       scripts = let e = v.scripts in omega (arith, long, length-append s.boot.sides (side ∷ []));
       calls = λ n l. elim (split_lt n (length s.scripts)) [
         | inl old ↦ rw (get_or_append_left s.scripts ([] ∷ []) [] n old) (All-map (λ c. IsTrue (fits s.boot n c)) (λ c. IsTrue (fits boot n c)) (script s n) (λ c. side_fits s.boot side n c) (v.calls n old))
@@ -131,6 +137,7 @@ thread_more s side room valid v =
             let here : n ≡ length s.scripts + 0 = omega (arith, long) in
             rw (here, get_or-append-add s.scripts ([] ∷ []) 0 []) (λ k d none. absurd (omega arith))
       ];
+      ranges = All-push HaveRanges s.scripts [] v.ranges (All-nil IsValidCall);
       few_calls = let e = v.few_calls in omega (arith, sum);
       order = All-map (λ n. n < length s.scripts) (λ n. n < length (s.scripts ++ [] ∷ [])) s.order (λ n l. omega (arith, long)) v.order;
       few_turns = v.few_turns;
@@ -143,11 +150,12 @@ pub call_count-more : (s : Plan) (who : ℕ) (call : Call) → who < length s.sc
 call_count-more s who call l =
     omega (arith, sum_by-set length s.scripts who (script s who ++ call ∷ []) [] l, length-append (script s who) (call ∷ []))
 
-pub call_more : (s : Plan) (who : ℕ) (call : Call) → call_count s.scripts < 200000 → IsTrue (fits s.boot who call) → who < length s.scripts → IsValid s → IsValid (record s { scripts = with_call s who call })
-call_more s who call room fit l v = record {
+pub call_more : (s : Plan) (who : ℕ) (call : Call) → IsValidCall call → call_count s.scripts < 200000 → IsTrue (fits s.boot who call) → who < length s.scripts → IsValid s → IsValid (record s { scripts = with_call s who call })
+call_more s who call ranges room fit l v = record {
   boot = v.boot;
   form = v.form;
   tasks = v.tasks;
+  bands = v.bands;
   scripts = length-set s.scripts who (script s who ++ call ∷ []) ∙ v.scripts;
   calls = λ n m.
       let m' : n < length s.scripts = rw (length-set s.scripts who (script s who ++ call ∷ [])) at m in
@@ -157,6 +165,7 @@ call_more s who call room fit l v = record {
             rw (e, get_or-set_same s.scripts who (script s who ++ call ∷ []) [] l) (All-push (λ c. IsTrue (fits s.boot who c)) (script s who) call (v.calls who l) fit)
         | inr other ↦ rw (get_or-set_other s.scripts who n (script s who ++ call ∷ []) [] other.1) (v.calls n m')
       ];
+  ranges = All-set HaveRanges s.scripts who (script s who ++ call ∷ []) (All-push IsValidCall (script s who) call (v.ranges who [] l) ranges) v.ranges;
   few_calls = omega (arith, call_count-more s who call l);
   order = All-map (λ n. n < length s.scripts) (λ n. n < length (with_call s who call)) s.order (λ n b. rw (length-set s.scripts who (script s who ++ call ∷ [])) b) v.order;
   few_turns = v.few_turns;

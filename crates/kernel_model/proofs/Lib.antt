@@ -3,4 +3,4 @@ pub mod Literal
 pub mod Rows
 pub mod Ranges
 pub mod Grows
-pub mod Steps
+pub mod TurnLemmas

@@ -58,7 +58,7 @@ begins_ripe n (d ∷ ds) = nat_le d n
 abbrev pub ripe_of : ℕ → Deadlines → Option Queue
 ripe_of n d = find (λ q. begins_ripe n (of_queue d q)) (Obsolete ∷ Lifo ∷ Fifo ∷ [])
 
--- behind all that aren't greater
+-- after all that aren't greater
 abbrev pub put_deadline : ℕ → List ℕ → List ℕ
 put_deadline x [] = x ∷ []
 put_deadline x (d ∷ ds) = if nat_le d x then d ∷ put_deadline x ds else x ∷ d ∷ ds

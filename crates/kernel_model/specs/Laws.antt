@@ -6,3 +6,7 @@ pub mod Literal
 pub mod Order
 pub mod Queues
 pub mod Legal
+pub mod Next
+pub mod Present
+pub mod Ends
+pub mod Group

@@ -19,4 +19,6 @@ pub mod Histories
 pub mod Scenario
 pub mod ScriptCalls
 pub mod Turns
+pub mod Whole
 pub mod Laws
+pub mod TurnsLeft

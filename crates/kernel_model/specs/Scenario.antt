@@ -5,7 +5,7 @@ use Rattle.kernel_model.specs.declared.boot.TaskBoot.{TaskBoot}
 use Rattle.kernel_model.specs.declared.scenario.Form.{Form}
 use Rattle.kernel_model.specs.declared.scenario.Form.TheVariants.{One, Two}
 use Rattle.kernel_model.specs.System.{System}
-use Rattle.kernel_model.specs.Valid.{IsDelay, IsValidBoot}
+use Rattle.kernel_model.specs.Valid.{IsDelay, IsValidBoot, IsValidCall}
 use Rattle.kernel_model.specs.Histories.{fits}
 
 -- a form, what the kernel begins with, a list of calls for each thread, and the threads whose turns come first
@@ -32,12 +32,15 @@ abbrev pub IsValidForm : Form → Type 0
 IsValidForm (One delay) = IsDelay delay
 IsValidForm Two = Unit {0}
 
+-- every number is in its range, every call fits its thread, and each thread of the order is declared
 pub record IsValid (s : Plan) : Type 0 where
   pub boot : IsValidBoot s.boot
   pub form : IsValidForm s.form
   pub tasks : All (FitsForm s.form) s.boot.tasks
+  pub bands : All (λ t. t.band ≤ 20) s.boot.tasks
   pub scripts : length s.scripts ≡ length s.boot.sides
   pub calls : (n : ℕ) → n < length s.scripts → All (λ call. IsTrue (fits s.boot n call)) (script s n)
+  pub ranges : All (λ script. All IsValidCall script) s.scripts
   pub few_calls : call_count s.scripts ≤ 200000
   pub order : All (λ n. n < length s.scripts) s.order
   pub few_turns : length s.order ≤ 200000

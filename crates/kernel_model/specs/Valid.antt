@@ -1,5 +1,7 @@
--- The ranges of what a kernel begins with.
-use Rattle.std.specs.Prelude.{ℕ, ◌+◌, ◌<◌, ◌≤◌, List, [], ◌∷◌, length, All}
+-- The ranges of what a kernel begins with, and of the calls of its threads.
+use Rattle.std.specs.Prelude.{ℕ, ◌+◌, ◌^◌, ◌<◌, ◌≤◌, List, [], ◌∷◌, length, All}
+use Rattle.kern_ids.specs.declared.calls.Call.{Call}
+use Rattle.kern_ids.specs.declared.calls.Call.TheVariants.{Write, Read, SetState, SetBand}
 use Rattle.kernel_model.specs.declared.boot.Params.{Params}
 use Rattle.kernel_model.specs.declared.boot.TaskBoot.{TaskBoot}
 use Rattle.kernel_model.specs.declared.boot.ObjBoot.{ObjBoot}
@@ -53,3 +55,11 @@ pub record IsValidBoot (boot : System) : Type 0 where
   pub tasks : All IsValidTask boot.tasks
   pub objects : All (IsValidObject (length boot.tasks)) boot.objects
   pub sides : All (IsValidSide (length boot.tasks)) boot.sides
+
+-- the numbers of a call and its bytes are in their ranges; what it names, and its limits, are in theirs where it fits
+abbrev pub IsValidCall : Call → Type 0
+IsValidCall (Write o off bytes) = (off < 2 ^ 32) × (length bytes ≤ 256) × All (λ b. b < 256) bytes
+IsValidCall (Read o off len) = (off < 2 ^ 32) × (len < 2 ^ 32)
+IsValidCall (SetState o word) = word < 2 ^ 32
+IsValidCall (SetBand t band) = band ≤ 20
+IsValidCall _ = Unit {0}

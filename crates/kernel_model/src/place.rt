@@ -1,4 +1,4 @@
-//! Where pages and volatile objects stand.
+//! Where pages and volatile objects are.
 
 use kern_ids::calls::Queue;
 
@@ -18,7 +18,7 @@ pub struct Placed {
     pub number: usize,
 }
 
-/// The queue and group in which a volatile object stands, and the number of the entry that put it there.
+/// The queue and group in which a volatile object is, and the number of the entry that put it there.
 #[derive(Clone, Copy, PartialEq, Eq, Debug)]
 pub struct Standing {
     pub queue: Queue,

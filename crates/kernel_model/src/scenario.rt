@@ -6,6 +6,7 @@ ghost use Rattle.kernel_model.specs.Histories as histories;
 ghost use Rattle.kernel_model.specs.Scenario.{IsValid, IsValidForm, FitsForm, call_count, script, two};
 
 use crate::boot::{Boot, ObjBoot, Params, Side, TaskBoot};
+use crate::call_ranges::valid_call;
 use crate::script_call::ScriptCall;
 use kern_ids::calls::Call;
 use kern_ids::entries::NoMemory;
@@ -201,6 +202,7 @@ impl Scenario {
         ensures ok { OnOk result (self.new ≡ record self.old { boot = record self.old.boot { tasks = self.old.boot.tasks ++ t ∷ [] } }) }
         ensures err { OnErr result (self.new ≡ self.old) }
     {
+        let _band = t.band.get();
         self.boot.add_task(t)
     }
 
@@ -234,6 +236,7 @@ impl Scenario {
         ensures ok { OnOk result (self.new ≡ record self.old { scripts = slice_set self.old.scripts who (script self.old who ++ call ∷ []) }) }
         ensures err { OnErr result (self.new ≡ self.old) }
     {
+        valid_call(&call);
         self.scripts[who.get() as usize].add(call)?;
         self.calls += 1;
         Ok(())

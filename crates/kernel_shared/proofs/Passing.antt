@@ -14,12 +14,12 @@ use Rattle.kernel_model.specs.Histories.{fits, names_fit, same, is_task_call}
 use Rattle.kernel_model.specs.Valid.{IsValidBoot}
 use Rattle.page_store.specs.Contents.{Contents, nothing}
 use Rattle.turn_lock.specs.Histories.{StartsWith}
-use Rattle.object_effects.specs.Bodies.{content, made}
+use Rattle.kernel_core.specs.Bodies.{content, made}
 use Rattle.kernel_shared.specs.Calls.{Bytes, KernelTable, KernelPass, IsIdleOf, IsSamePass, HasMade, entry_of}
 use Rattle.kernel_shared.specs.Steps.{IsWanted, MayTouch, held_after}
-use Rattle.object_effects.proofs.Needs.{named-declared, touched-needed}
-use Rattle.object_effects.proofs.Effects.{content-first, content-left}
-use Rattle.object_effects.specs.Touches.{NeedsAtMost, bytes_left, touched, named_number, needed_number}
+use Rattle.kernel_core.proofs.Needs.{named-declared, touched-needed}
+use Rattle.kernel_core.proofs.Effects.{content-first, content-left}
+use Rattle.kernel_core.specs.Touches.{NeedsAtMost, bytes_left, touched, named_number, needed_number}
 
 -- a thread whose call fits is declared
 pub who-below : (boot : System) (who : ℕ) (call : Call) → IsValidBoot boot → IsTrue (fits boot who call) → who < 32

@@ -8,8 +8,8 @@ use Rattle.kernel_model.specs.Answers.{answer}
 use Rattle.kernel_model.specs.Histories.{Legal}
 use Rattle.kernel_shared.specs.declared.shared.Look.{Look}
 use Rattle.kernel_shared.specs.declared.shared.Look.TheVariants.{Made, Needs}
-use Rattle.object_effects.specs.Bodies.{content}
-use Rattle.object_effects.specs.Touches.{NeedsAtMost, named_number}
+use Rattle.kernel_core.specs.Bodies.{content}
+use Rattle.kernel_core.specs.Touches.{NeedsAtMost, named_number}
 use Rattle.kernel_shared.specs.Calls.{Bytes, KernelTable, KernelPass, HasMade, entry_of}
 
 -- the bytes that the call needs are those of the object that is held
@@ -22,7 +22,7 @@ abbrev pub held_after : List Entry → Option (ℕ × Bytes) → Option (ℕ × 
 held_after h None = None
 held_after h (Some o) = Some (o.0, content h o.0)
 
--- the turn was given up with the entry of this call, and the history is legal
+-- the turn was left with the entry of this call, and the history is legal
 pub record IsEntryMade (boot : System) (old new : KernelPass) (call : Call) (reply : Reply) : Type 0 where
   pub answered : reply ≡ answer boot (reverse old.seen) old.number call
   pub seen : new.seen ≡ old.seen ++ entry_of old call reply ∷ []

@@ -9,11 +9,11 @@ pub enum Point {
     ObjectTaken,
     /// The turn is about to be taken.
     BeforeTurn,
-    /// The turn was given up with an entry.
+    /// The turn was left with an entry.
     AfterTurn,
 }
 
-/// What is told of each moment. It may wait.
+/// What is called at each moment. It may wait.
 pub trait Gate {
     fn at(&self, who: ThreadId, point: Point);
 }

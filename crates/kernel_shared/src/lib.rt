@@ -1,4 +1,4 @@
-//! The kernel shared by threads. A call takes effect in one moment, when it gives the turn up: its entry is
+//! The kernel shared by threads. A call takes effect in one moment, when it leaves the turn: its entry is
 //! then the last of the history. The bytes of an object are read and written under the word of the object,
 //! outside the turn.
 #![tactic(auto)]

@@ -10,7 +10,7 @@ ghost use Rattle.turn_lock.specs.Histories.{StartsWith, longer, entries_of, list
 ghost use Rattle.turn_lock.specs.Passes.{IsPassOf, HoldsNothing, IsNewPassOf, gathered_by, numbers_of, weight_of};
 ghost use Rattle.kernel_shared.specs.Calls.{IsIdleOf, IsSamePass, HasMade, KnowsOwn, pass_count};
 ghost use Rattle.kernel_shared.specs.Steps.{IsEntryMade, MayTouch, IsTried, IsLooked};
-ghost use Rattle.object_effects.specs.Touches.{NeedsAtMost, named_number, needed_number};
+ghost use Rattle.kernel_core.specs.Touches.{NeedsAtMost, named_number, needed_number};
 
 use crate::gate::{Gate, Point};
 use crate::value::Core;
@@ -19,11 +19,11 @@ use kern_ids::entries::{EntryList, NoMemory};
 use kern_ids::ids::ThreadId;
 use kern_ids::lines::ByteLine;
 use kern_ids::replies::Reply;
-use kernel_core::kernel::Kernel;
-use kernel_model::boot::Boot;
-use object_effects::effect::{
+use kernel_core::effect::{
     apply, empty_bodies, look, named_number, needed_number, no_bytes, prepare,
 };
+use kernel_core::kernel::Kernel;
+use kernel_model::boot::Boot;
 use page_store::Body;
 use std::alloc::Global;
 use std::marker::Model;
@@ -92,7 +92,7 @@ impl SharedKernel {
         boot.valid();
         let bodies = empty_bodies(alloc, boot.objects().len())?;
         let core = Core {
-            kernel: Kernel::boot(alloc, boot)?,
+            kernel: Kernel::boot(alloc, boot, EntryList::new(alloc))?,
         };
         let passes = passes_for(boot);
         let boot = boot.copy(alloc)?;
@@ -119,7 +119,7 @@ impl SharedKernel {
         }
     }
 
-    // Makes the entry of the call in the turn, and gives the turn up.
+    // Makes the entry of the call in the turn, and leaves the turn.
     fn make<G: Gate>(
         &self,
         gate: &G,
@@ -143,8 +143,8 @@ impl SharedKernel {
             self.table.leave(pass, turn);
             return Err(NoMemory);
         }
-        let reply = turn.value().kernel.step(who, *call, seen);
-        turn.value().kernel.legal();
+        let mut reply = Reply::Nothing;
+        turn.value().kernel.step(who, call, seen, &mut reply);
         self.table.leave(pass, turn);
         gate.at(who, Point::AfterTurn);
         Ok(reply)
@@ -255,7 +255,7 @@ impl SharedKernel {
         unreachable!()
     }
 
-    /// Makes a call. Its entry is the last of the history at the moment when it gives the turn up. Waits for
+    /// Makes a call. Its entry is the last of the history at the moment when it leaves the turn. Waits for
     /// the turn, and for the word of the object whose bytes it needs. Without memory no entry is made.
     pub fn call<R: Wait, G: Gate>(
         &self,
@@ -276,7 +276,8 @@ impl SharedKernel {
         made
     }
 
-    /// How many frames are free after a history that the pass has then seen. It neither waits nor takes memory.
+    /// How many frames are free after a history that the pass has then seen. It neither waits nor takes
+    /// memory.
     pub fn pressure(&self, pass: &mut Pass) -> u64
         requires { IsPassOf self.now pass.old }
         ensures free { result ≡ free self.now.base (reverse pass.new.seen) }
@@ -312,6 +313,6 @@ impl SharedKernel {
         let SharedKernel { boot: _, table } = self;
         let Core { kernel } = table.close(pass);
         kernel.legal();
-        kernel.into_history()
+        kernel.into_log()
     }
 }

@@ -1,6 +1,6 @@
 //! The kernel as the value under the turn.
 
-use kern_ids::entries::Entry;
+use kern_ids::entries::{Entry, EntryList};
 use kernel_core::kernel::Kernel;
 use kernel_model::boot::Boot;
 use page_store::Body;
@@ -9,15 +9,15 @@ use turn_lock::Ordered;
 /// The kernel, which has the turn's history.
 #[derive(Drop)]
 pub struct Core {
-    pub kernel: Kernel,
+    pub kernel: Kernel<EntryList>,
 }
 
 impl Ordered<Body> for Core {
     ghost use Rattle.std.specs.Prelude.{reverse};
     ghost use Rattle.kernel_model.specs.Pages.{free};
-    ghost use Rattle.object_effects.specs.Bodies.{content};
-    ghost use Rattle.object_effects.specs.Touches.{touched};
-    ghost use Rattle.object_effects.specs.Untouched.{content-untouched};
+    ghost use Rattle.kernel_core.specs.Bodies.{content};
+    ghost use Rattle.kernel_core.specs.Touches.{touched};
+    ghost use Rattle.kernel_core.specs.Untouched.{content-untouched};
 
     type Base = Boot;
 
@@ -42,6 +42,6 @@ impl Ordered<Body> for Core {
     ghost untouched = { content-untouched };
 
     fn free(&self) -> u64 {
-        u64::from(self.kernel.free())
+        self.kernel.free()
     }
 }

@@ -1,13 +1,12 @@
 -- An access to a range of bytes of an object touches the pages of its first and its last byte: what the tables are afterwards.
-use Rattle.std.proofs.Common.{◌≡◌, ℕ, suc, ◌+◌, ◌-◌, ◌*◌, ◌/◌, ◌<◌, ◌≤◌, List, [], ◌∷◌, length, map, not, if◌then◌else◌, get_or, Option, Some, None, nat_eq, nat_lt, count_by, refl, sym, ap, ap₂, ◌∙◌, subst, Bool, true, false, ◌&&◌, ◌||◌, inl, inr, arith, zero-le}
+use Rattle.std.proofs.Common.{◌≡◌, ℕ, ◌+◌, ◌-◌, ◌*◌, ◌/◌, ◌<◌, ◌≤◌, List, [], ◌∷◌, length, map, not, if◌then◌else◌, get_or, Some, None, nat_eq, count_by, refl, sym, ap, ap₂, ◌∙◌, subst, Bool, true, false, ◌&&◌, ◌||◌, inl, inr, arith, zero-le}
 use Rattle.std.specs.Option.{option_map_or}
 use Rattle.std.specs.List.{range_with_len}
-use Rattle.std.proofs.lemmas.Bool.{cases_Bool, cases_lt, true≢false, false≢true, eq-eqb, lt-ltb, or_right}
+use Rattle.std.proofs.lemmas.Bool.{cases_Bool, cases_lt, true≢false, eq-eqb, lt-ltb, or_right}
 use Rattle.std.proofs.lemmas.Bool.Decides.{nat_tests}
 use Rattle.std.proofs.lemmas.List.{length-map}
 use Rattle.kern_ids.specs.declared.entries.Entry.{Entry}
 use Rattle.kern_ids.specs.declared.ids.PageId.{PageId}
-use Rattle.kern_ids.specs.declared.calls.State.{State}
 use Rattle.kernel_model.specs.declared.boot.ObjBoot.{ObjBoot}
 use Rattle.kernel_model.specs.declared.place.Place.{Place}
 use Rattle.kernel_model.specs.declared.place.Place.TheVariants.{Absent, Active, Inactive, Stored}
@@ -16,7 +15,6 @@ use Rattle.kernel_model.specs.System.{System}
 use Rattle.kernel_model.specs.Valid.{IsValidBoot}
 use Rattle.kernel_model.specs.Lists.{pair_lt}
 use Rattle.kernel_model.specs.Events.{reaches_page}
-use Rattle.kernel_model.specs.Deadlines.{deadlines}
 use Rattle.kernel_model.specs.Pages.{place, placed, pages_of, pages_in, same_page, is_out, is_active, is_inactive, touches, touched_since, move_of, entered, left, free, inactive_pages, active_pages, is_deactivation}
 use Rattle.kernel_model.specs.Answers.{needed}
 use Rattle.kernel_model.specs.Histories.{IsLegal}
@@ -29,20 +27,21 @@ use Rattle.kernel_model.proofs.Laws.Kinds.{placed-faulted, placed-stays, touched
 use Rattle.kernel_model.proofs.Laws.Pages.{free-is, left-is}
 use Rattle.kernel_model.proofs.Laws.Queues.{pair_lt-newer, range-has}
 use Rattle.kernel_model.proofs.Laws.Untouched.{pages-has}
+use Rattle.kernel_model.specs.Laws.Present.{is_absent}
+use Rattle.kernel_model.proofs.Laws.Present.{placed-since}
 use Rattle.page_queues.specs.Pages.{Pages, IsPage, key_of, page_of, active as active_keys, inactive as inactive_keys, place as place_in, free as free_in, is_out as lacks_frame}
-use Rattle.ripen_advance.specs.Queues.{QueueDues}
 use Rattle.vm_object.specs.Objects.{Object, object_at, owner as owner_in}
 use Rattle.task_ledger.specs.declared.account.Account.{Account}
 use Rattle.kernel_tables.specs.Values.{TableValues}
-use Rattle.kernel_tables.specs.Stands.{Stands, PagesStand, ObjectsStand, AccountsStand, HasDues}
+use Rattle.kernel_tables.specs.Stands.{Stands, PagesStand, ObjectsStand, AccountsStand}
 use Rattle.kernel_tables.specs.Moves.{recharged, touched, place_touched, touched_range, charged_touch, charged_range, first_page, last_page, IsChargeable, IsRange, CanTouch}
 use Rattle.kernel_tables.proofs.Counting.{pages-count}
 use Rattle.kernel_tables.proofs.Kept.{kept-dues}
 use Rattle.kernel_tables.proofs.Lists.{at-some, get_or-mapped}
-use Rattle.kernel_tables.proofs.PageMoves.{PagesHold, stamped, is_absent, placed-since, hold-agree, hold-stands, stands-hold}
+use Rattle.kernel_tables.proofs.PageMoves.{PagesHold, stamped, hold-agree, hold-stands, stands-hold}
 use Rattle.kernel_tables.proofs.PageCharges.{ChargesHold, charges-stand, charges-agree, page-fits, has-counted}
 use Rattle.kernel_tables.proofs.OnlyPages.{OnlyPages, none-emptied, none-unmapped, idle-placed, idle-touched, same-deadlines, charged-stand, only-pages-stand}
-use Rattle.kernel_tables.proofs.Recharges.{page-object, page-inside, recharge-can, recharge-does}
+use Rattle.kernel_tables.proofs.Recharges.{recharge-can, recharge-does}
 use Rattle.kernel_tables.proofs.Touches.{faulted_at, marked_at, put_at, same-out, faulted-other, faulted-here, faulted-stays, faulted-place, hold-touched, in_frames, IsTouched, is-touched, reaches-is, two-counted, touched-twice, marked-twice}
 
 pair_lt-page : (n a b : ℕ) → a < b → pair_lt (n, a) (n, b) ≡ true

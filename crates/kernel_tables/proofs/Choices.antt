@@ -1,30 +1,20 @@
 -- Which object a purge takes is told by the tables: each queue has as many tokens as objects, and the ripe queue and the first of each
 -- group are those of the definitions.
-use Rattle.std.proofs.Common.{◌≡◌, ℕ, ◌+◌, ◌-◌, ◌/◌, ◌<◌, ◌≤◌, List, [], ◌∷◌, ◌++◌, length, map, Option, Some, None, option_map, slice_get, refl, sym, ap, ap₂, ◌∙◌, subst, Bool, true, false, not, ◌&&◌, nat_eq, nat_lt, if◌then◌else◌, inl, inr, ◌⊎◌, arith, zero-le}
-use Rattle.std.specs.Prelude.{count_by, sum_by, flat_map, option_and_then, bit_and}
-use Rattle.std.specs.Option.{unwrap_or}
+use Rattle.std.proofs.Common.{◌≡◌, ℕ, ◌+◌, ◌-◌, ◌<◌, List, [], ◌∷◌, ◌++◌, length, map, Option, Some, None, option_map, slice_get, refl, sym, ap, ap₂, ◌∙◌, subst, Bool, true, false, ◌&&◌, nat_eq, nat_lt, if◌then◌else◌, inl, inr, ◌⊎◌, arith, zero-le}
+use Rattle.std.specs.Prelude.{count_by, sum_by, flat_map, option_and_then}
 use Rattle.std.specs.List.{range_with_len}
 use Rattle.std.proofs.lemmas.Bool.Decides.{nat_tests}
 use Rattle.std.proofs.lemmas.List.{length-map}
 use Rattle.std.proofs.lemmas.List.Sums.{sum_by-cons, sum-map}
 use Rattle.std.proofs.lemmas.List.Concat.{flat_map-cons}
-use Rattle.std.proofs.lemmas.Nat.{and_le_r}
 use Rattle.kern_ids.specs.declared.entries.Entry.{Entry}
-use Rattle.kern_ids.specs.declared.calls.Call.{Call}
-use Rattle.kern_ids.specs.declared.calls.Call.TheVariants.{SetState}
 use Rattle.kern_ids.specs.declared.calls.Queue.{Queue}
 use Rattle.kern_ids.specs.declared.calls.Queue.TheVariants.{Obsolete, Lifo, Fifo}
-use Rattle.kern_ids.specs.declared.calls.Wish.{Wish}
-use Rattle.kern_ids.specs.declared.calls.Wish.TheVariants.{Nonvolatile as ask_nonvolatile, Volatile as ask_volatile, Empty as ask_empty}
-use Rattle.kern_ids.specs.StateWord.{decoded}
-use Rattle.kernel_model.specs.declared.place.Standing.{Standing}
 use Rattle.kernel_model.specs.System.{System}
 use Rattle.kernel_model.specs.Valid.{IsValidBoot}
-use Rattle.kernel_model.specs.Newest.{newest}
 use Rattle.kernel_model.specs.Lists.{first_some}
-use Rattle.kernel_model.specs.Events.{accepted, asked, wish_call}
 use Rattle.kernel_model.specs.Pages.{left}
-use Rattle.kernel_model.specs.Groups.{volatile, standing, standing_asked, stands_in, same_queue, objects_of, is_lifo, first}
+use Rattle.kernel_model.specs.Groups.{volatile, standing, stands_in, same_queue, objects_of, is_lifo, first}
 use Rattle.kernel_model.specs.Deadlines.{deadlines, of_queue, due_of, ripe_queue}
 use Rattle.kernel_model.specs.Choice.{pick, forced, places_for, groups_of, first_of}
 use Rattle.kernel_model.specs.Laws.Frames.{bit}
@@ -35,51 +25,17 @@ use Rattle.kernel_model.proofs.Laws.Counting.{count_by-and, count_by-range, sum_
 use Rattle.kernel_model.proofs.Laws.Order.{has-append_cases}
 use Rattle.kernel_model.proofs.Laws.Queues.{first-is, distinct-range, has-range, range-has}
 use Rattle.kernel_model.proofs.Laws.Held.{tokens-hold}
-use Rattle.kernel_model.proofs.Laws.Purges.{IsChosen, first_some-has, chosen-volatile, chosen-queue}
+use Rattle.kernel_model.proofs.Laws.Present.{standing-group}
+use Rattle.kernel_model.proofs.Laws.Purges.{IsChosen, first_some-has, chosen-queue}
 use Rattle.volatile_groups.specs.Grouped.{first_list, members, queue_at, queue_of, AreGroups}
 use Rattle.ripen_advance.specs.Queues.{CanServe}
 use Rattle.purge_pick.specs.Picks.{HasTokens, HeadsGroup, head_of, picked, forced_of, objects_in, first_of as first_in, ripe_queue as ripe_in}
 use Rattle.purge_pick.specs.Follows.{Follows}
 use Rattle.purge_pick.proofs.FollowLemmas.{queue-follows}
-use Rattle.link_list.specs.KeyLists.{has}
 use Rattle.kernel_tables.specs.Values.{TableValues}
 use Rattle.kernel_tables.specs.Stands.{Stands}
 use Rattle.kernel_tables.proofs.Counting.{keeps-count}
 use Rattle.kernel_tables.proofs.Lists.{fact-has}
-
--- a word asks for a group below 8
-word_group : (a b c d o : Bool) (k : ℕ) (r q : Queue) (g : ℕ) → (if a then None else if b then Some ask_nonvolatile else if c then Some ask_empty else if d then Some (ask_volatile r (if o then 0 else k)) else None) ≡ Some (ask_volatile q g) → k < 8 → g < 8
-word_group true b c d o k r q g h l = absurd (cc)
-word_group false true c d o k r q g h l = absurd (cc)
-word_group false false true d o k r q g h l = absurd (cc)
-word_group false false false true true k r q g h l = let e : 0 ≡ g = cc in omega arith
-word_group false false false true false k r q g h l = let e : k ≡ g = cc in omega arith
-word_group false false false false o k r q g h l = absurd (cc)
-
-decoded-group : (word : ℕ) (q : Queue) (g : ℕ) → decoded word ≡ Some (ask_volatile q g) → g < 8
-decoded-group word q g h =
-    let few : bit_and (word / 256) 7 ≤ 7 = and_le_r (word / 256) 7 in
-    word_group (not (nat_eq (bit_and word 0x773) word)) (nat_eq (bit_and word 3) 0) (nat_eq (bit_and word 3) 2) (nat_eq (bit_and word 3) 1) (not (nat_eq (bit_and word 0x20) 0)) (bit_and (word / 256) 7) _ q g h (omega arith)
-
-given_group : (b : Bool) (w : Option Wish) (q : Queue) (g : ℕ) → (if b then w else None) ≡ Some (ask_volatile q g) → (w ≡ Some (ask_volatile q g) → g < 8) → g < 8
-given_group true w q g h k = k h
-given_group false w q g h k = absurd (cc)
-
-wish_group : (o : ℕ) (call : Call) (q : Queue) (g : ℕ) → wish_call o call ≡ Some (ask_volatile q g) → g < 8
-wish_group o (SetState x word) q g h = given_group (nat_eq x o) (decoded word) q g h (decoded-group word q g)
-wish_group o _ q g h = absurd (cc)
-
-standing_group : (w : Option Wish) (n : ℕ) (was : Standing) → ((q : Queue) (g : ℕ) → w ≡ Some (ask_volatile q g) → g < 8) → was.group < 8 → (unwrap_or (option_and_then (standing_asked n) w) was).group < 8
-standing_group (Some (ask_volatile q g)) n was k l = k q g refl
-standing_group (Some ask_nonvolatile) n was k l = l
-standing_group (Some ask_empty) n was k l = l
-standing_group None n was k l = l
-
--- so every object stands in one of eight groups
-pub standing-group : (past : List Entry) (o : ℕ) → (standing past o).group < 8
-unfolding standing newest
-standing-group [] o = omega arith
-standing-group (e ∷ before) o = standing_group (asked o e) (length before) (standing before o) (λ q g h. given_group (accepted e) (wish_call o e.call) q g h (wish_group o e.call q g)) (standing-group before o)
 
 -- a count is the sum of the counts of its groups
 sum_by-plus : (f g : ℕ → ℕ) (ns : List ℕ) → sum_by (λ n. f n + g n) ns ≡ sum_by f ns + sum_by g ns

@@ -1,7 +1,6 @@
 -- What an entry that empties one object makes of the pages, of the pages that left, of the objects and of the accounts.
-use Rattle.std.proofs.Common.{◌≡◌, ℕ, suc, ◌+◌, ◌-◌, ◌<◌, ◌≤◌, List, [], ◌∷◌, length, map, set, get_or, replicate, refl, sym, ap, ap₂, ◌∙◌, subst, Bool, true, false, not, ◌&&◌, nat_eq, if◌then◌else◌, inl, inr, ◌⊎◌, arith, zero-le}
+use Rattle.std.proofs.Common.{◌≡◌, ℕ, ◌+◌, ◌-◌, ◌<◌, List, [], ◌∷◌, length, get_or, refl, sym, ap, ap₂, ◌∙◌, subst, Bool, true, false, not, ◌&&◌, nat_eq, if◌then◌else◌, inl, inr, arith}
 use Rattle.std.specs.Prelude.{slice_index_or}
-use Rattle.std.proofs.lemmas.Bool.{true≢false}
 use Rattle.std.proofs.lemmas.Bool.Decides.{eqb_tells, nat_tests}
 use Rattle.std.proofs.lemmas.List.{length-set, get_or-set_same, get_or-set_other}
 use Rattle.kern_ids.specs.declared.entries.Entry.{Entry}
@@ -9,64 +8,30 @@ use Rattle.kern_ids.specs.declared.ids.PageId.{PageId}
 use Rattle.kern_ids.specs.declared.calls.State.{State}
 use Rattle.kern_ids.specs.declared.calls.State.TheVariants.{Empty}
 use Rattle.kern_ids.specs.declared.replies.Counts.{Counts}
-use Rattle.kern_ids.specs.declared.replies.Reply.{Reply}
-use Rattle.kern_ids.specs.declared.replies.Reply.TheVariants.{Moved}
-use Rattle.kern_ids.specs.declared.replies.Move.TheVariants.{Deactivated, Reactivated, Freed, Compressed, Requeued}
-use Rattle.kernel_model.specs.declared.place.Place.{Place}
 use Rattle.kernel_model.specs.declared.place.Placed.{Placed}
 use Rattle.kernel_model.specs.System.{System}
 use Rattle.kernel_model.specs.Valid.{IsValidBoot}
-use Rattle.kernel_model.specs.Mapping.{maps, mapped, owner}
+use Rattle.kernel_model.specs.Mapping.{mapped, owner}
 use Rattle.kernel_model.specs.State.{state}
-use Rattle.kernel_model.specs.Pages.{place, placed, pages_of, is_stored, written, entered, next_entered, inactive_pages, is_inactive, is_deactivation, left, moved_to}
+use Rattle.kernel_model.specs.Pages.{place, pages_of, is_stored, written, inactive_pages, left}
 use Rattle.kernel_model.specs.Bands.{Limits}
 use Rattle.kernel_model.specs.Counted.{counts}
-use Rattle.kernel_model.specs.Laws.Frames.{bit, is_in, pages_at}
+use Rattle.kernel_model.specs.Laws.Frames.{is_in, pages_at}
 use Rattle.kernel_model.specs.Laws.Order.{Has}
-use Rattle.kernel_model.proofs.Laws.Bounds.{counted-le, left-rises}
-use Rattle.kernel_model.proofs.Laws.Counting.{count_by-none}
 use Rattle.kernel_model.proofs.Laws.Kept.{mapped-kept, owner-kept}
-use Rattle.kernel_model.proofs.Laws.Pages.{placed-none, entered-more, left-is}
+use Rattle.kernel_model.proofs.Laws.Present.{inactive-entered}
+use Rattle.kernel_model.proofs.Laws.Pages.{left-is}
 use Rattle.page_queues.specs.Pages.{Pages, is_marked, is_of_first, without_object, inactive as inactive_keys}
 use Rattle.page_queues.specs.Tallies.{count_of}
-use Rattle.vm_object.specs.Objects.{Object, object_at, no_object, no_page, purged, changed}
+use Rattle.vm_object.specs.Objects.{Object, object_at, no_object, purged, changed}
 use Rattle.task_ledger.specs.declared.account.Account.{Account}
-use Rattle.task_ledger.specs.Accounts.{account_of, counts_less, counts_plus, no_pages}
+use Rattle.task_ledger.specs.Accounts.{counts_less, counts_plus, no_pages}
 use Rattle.kernel_tables.specs.Charges.{charge, charge_of, owed, is_owner, relieved}
 use Rattle.kernel_tables.specs.Emptying.{IsEmptying}
 use Rattle.kernel_tables.specs.Stands.{PagesStand, ObjectsStand, AccountsStand, IsAccount}
 use Rattle.kernel_tables.proofs.Lists.{get_or-same}
 use Rattle.kernel_tables.proofs.ObjectCharges.{counts-object, relieved-at, length-relieved}
 use Rattle.kernel_tables.proofs.Dropped.{pages-dropped, inactive-dropped}
-
--- no more pages are Inactive than were ever deactivated
-abbrev brings_inactive : Reply → Bool
-brings_inactive (Moved move q) = is_inactive (moved_to move)
-brings_inactive _ = false
-
-deactivations : (r : Reply) → bit (brings_inactive r) ≡ bit (is_deactivation r)
-deactivations (Moved Deactivated p) = refl
-deactivations (Moved Reactivated p) = refl
-deactivations (Moved Freed p) = refl
-deactivations (Moved Compressed p) = refl
-deactivations (Moved Requeued p) = refl
-deactivations _ = refl
-
-entered_by : (b : Bool) (n : ℕ) → (if b then n + 1 else n) ≡ n + bit b
-entered_by true n = refl
-entered_by false n = omega arith
-
-pub inactive-entered : (boot : System) (past : List Entry) → inactive_pages boot past ≤ entered past
-unfolding next_entered
-inactive-entered boot [] =
-    let n : inactive_pages boot [] ≡ 0 = count_by-none (λ p. is_inactive (place boot [] p)) (λ p. ap (λ (x : Placed). is_inactive x.place) (placed-none boot p)) (pages_of boot) in
-    omega arith
-inactive-entered boot (e ∷ before) =
-    let r = inactive-entered boot before in
-    let i : inactive_pages boot (e ∷ before) ≤ inactive_pages boot before + bit (brings_inactive e.reply) = counted-le boot e before is_inactive refl refl in
-    let d = deactivations e.reply in
-    let n : entered (e ∷ before) ≡ entered before + bit (is_deactivation e.reply) = entered-more e before ∙ entered_by (is_deactivation e.reply) (entered before) in
-    omega (arith, r, i, d, n)
 
 -- an object of the table after a change of one
 pub object-changed : (objects : List Object) (o : ℕ) (change : Object → Object) (x : ℕ) → o < length objects → object_at (changed objects o change) x ≡ (if nat_eq o x then change (object_at objects x) else object_at objects x)

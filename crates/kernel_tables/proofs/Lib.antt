@@ -41,7 +41,6 @@ pub mod VerdictLemmas
 pub mod VerdictCall
 pub mod Accesses
 pub mod ReadWrite
-pub mod HeldMapped
 pub mod ScanDecision
 pub mod Threads
 pub mod UnmapSteps

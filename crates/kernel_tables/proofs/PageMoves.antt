@@ -1,9 +1,7 @@
 -- Pages that stand in places since entries, and of which one after another goes to another place or is marked.
-use Rattle.std.proofs.Common.{◌≡◌, ℕ, zero, suc, ◌+◌, ◌<◌, ◌≤◌, List, [], ◌∷◌, ◌++◌, length, map, filter, set, get_or, cond, not, if◌then◌else◌, Option, Some, None, option_map, nat_eq, nat_lt, refl, sym, ap, ap₂, ◌∙◌, subst, Bool, true, false, ◌&&◌, ◌||◌, inl, inr, ◌⊎◌, arith}
-use Rattle.std.specs.Option.{unwrap_or}
-use Rattle.std.proofs.lemmas.Bool.{cases_Bool, true≢false, false≢true}
-use Rattle.std.proofs.lemmas.Bool.Decides.{nat_tests}
-use Rattle.std.proofs.lemmas.List.{append-nil, get_or-map, get_or-set_same, get_or-set_other}
+use Rattle.std.proofs.Common.{◌≡◌, ℕ, ◌+◌, ◌<◌, List, [], ◌∷◌, ◌++◌, length, map, filter, set, get_or, cond, not, Some, nat_eq, refl, sym, ap, ap₂, ◌∙◌, subst, Bool, true, false, ◌&&◌, inl, inr, arith}
+use Rattle.std.proofs.lemmas.Bool.{cases_Bool, false≢true}
+use Rattle.std.proofs.lemmas.List.{append-nil, get_or-set_same, get_or-set_other}
 use Rattle.kern_ids.specs.declared.entries.Entry.{Entry}
 use Rattle.kern_ids.specs.declared.ids.PageId.{PageId}
 use Rattle.kernel_model.specs.declared.place.Place.{Place}
@@ -11,18 +9,14 @@ use Rattle.kernel_model.specs.declared.place.Place.TheVariants.{Absent, Active, 
 use Rattle.kernel_model.specs.declared.place.Placed.{Placed}
 use Rattle.kernel_model.specs.System.{System}
 use Rattle.kernel_model.specs.Lists.{pair_lt}
-use Rattle.kernel_model.specs.Mapping.{unmaps}
-use Rattle.kernel_model.specs.State.{state}
-use Rattle.kernel_model.specs.Newest.{newest}
-use Rattle.kernel_model.specs.Pages.{place, placed, place_given, pages_of, same_page, is_out, is_active, is_inactive, is_stored, touched_since, entered}
+use Rattle.kernel_model.specs.Pages.{place, placed, pages_of, same_page, is_active, is_inactive, is_stored, touched_since, entered}
 use Rattle.kernel_model.specs.Scan.{stamp_lt}
-use Rattle.kernel_model.specs.Laws.Order.{Has, Rising, Keeps}
-use Rattle.kernel_model.specs.Laws.Queues.{KeepsPages}
+use Rattle.kernel_model.specs.Laws.Order.{Has, Keeps}
+use Rattle.kernel_model.specs.Laws.Present.{is_absent}
 use Rattle.kernel_model.proofs.Laws.Order.{keeps-renew, keeps-same}
 use Rattle.kernel_model.proofs.Laws.Frames.{same_page-is}
-use Rattle.link_list.specs.KeyLists.{list_at, without, place_of}
-use Rattle.page_queues.specs.Tallies.{taken, moved}
-use Rattle.page_queues.specs.Pages.{Pages, key_of, page_of, is_marked, active as active_keys, inactive as inactive_keys, stored as stored_keys, place as place_in, place_at, placed as placed_in, absented, is_out as lacks_frame, is_inactive as stands_inactive}
+use Rattle.link_list.specs.KeyLists.{list_at, without}
+use Rattle.page_queues.specs.Pages.{Pages, key_of, page_of, is_marked, active as active_keys, inactive as inactive_keys, stored as stored_keys, place as place_in, place_at, placed as placed_in, absented}
 use Rattle.kernel_tables.specs.Stands.{PagesStand}
 use Rattle.kernel_tables.specs.Moves.{touched}
 use Rattle.kernel_tables.proofs.Lists.{placed-at, removed-at}
@@ -43,10 +37,6 @@ pub record PagesHold (boot : System) (f : PageId → Placed) (g : PageId → Boo
   pub stored_order : KeepsBy boot f is_stored (map page_of (stored_keys pages))
   pub marks : (p : PageId) → Has (pages_of boot) p → is_marked pages (key_of p) ≡ (is_inactive (f p).place && g p)
 
-abbrev pub is_absent : Place → Bool
-is_absent Absent = true
-is_absent _ = false
-
 present-active : (x : Place) → is_active x ≡ true → is_absent x ≡ false
 present-active Active h = refl
 present-active Absent h = absurd (false≢true h)
@@ -64,16 +54,6 @@ present-stored Stored h = refl
 present-stored Absent h = absurd (false≢true h)
 present-stored Active h = absurd (false≢true h)
 present-stored Inactive h = absurd (false≢true h)
-
--- a page that isn't Absent was placed by an entry
-number_since : (given : Option Place) (n : ℕ) (was : Placed) → is_absent (unwrap_or (option_map (λ x. record { place = x; number = n }) given) was).place ≡ false → (is_absent was.place ≡ false → was.number < n) → (unwrap_or (option_map (λ x. record { place = x; number = n }) given) was).number < suc n
-number_since (Some x) n was h k = omega arith
-number_since None n was h k = let l = k h in omega arith
-
-pub placed-since : (boot : System) (past : List Entry) (p : PageId) → is_absent (place boot past p) ≡ false → (placed boot past p).number < length past
-unfolding placed newest
-placed-since boot [] p h = absurd (true≢false h)
-placed-since boot (e ∷ before) p h = number_since (place_given (state before p.obj) (unmaps boot before e p.obj) p (place boot before p) e) (length before) (placed boot before p) h (λ i. placed-since boot before p i)
 
 -- One page goes from its place to another one, last of all: the order of the pages in one place.
 module _ (boot : System) (f f' : PageId → Placed) (p : PageId) (other : (q : PageId) → same_page p q ≡ false → f' q ≡ f q) where

@@ -1,5 +1,5 @@
 -- What the scan decides by the tables is what it decides by the history.
-use Rattle.std.proofs.Common.{◌≡◌, ℕ, ◌+◌, ◌*◌, ◌/◌, ◌%◌, ◌<◌, List, [], ◌∷◌, length, map, not, if◌then◌else◌, Option, Some, None, option_map, slice_get, nat_lt, nat_le, refl, sym, ap, ap₂, ◌∙◌, subst, Bool, true, false, ◌&&◌, inl, inr, arith}
+use Rattle.std.proofs.Common.{◌≡◌, ℕ, ◌<◌, List, [], ◌∷◌, length, map, not, if◌then◌else◌, Option, Some, None, option_map, slice_get, nat_lt, nat_le, refl, sym, ap, ap₂, ◌∙◌, subst, Bool, true, false, ◌&&◌, inl}
 use Rattle.std.specs.Option.{option_map_or}
 use Rattle.std.proofs.lemmas.List.{length-map}
 use Rattle.std.proofs.lemmas.Option.{slice_get-map}
@@ -8,28 +8,25 @@ use Rattle.kern_ids.specs.declared.ids.PageId.{PageId}
 use Rattle.kern_ids.specs.declared.replies.Reply.{Reply}
 use Rattle.kern_ids.specs.declared.replies.Reply.TheVariants.{Enough, Moved, Purged, Idle}
 use Rattle.kern_ids.specs.declared.replies.Move.TheVariants.{Deactivated, Reactivated, Freed, Compressed, Requeued}
-use Rattle.kernel_model.specs.declared.boot.Params.{Params}
 use Rattle.kernel_model.specs.System.{System}
 use Rattle.kernel_model.specs.Valid.{IsValidBoot}
-use Rattle.kernel_model.specs.Mapping.{mapped}
-use Rattle.kernel_model.specs.Pages.{place, pages_of, is_active, is_inactive, is_stored, free, inactive_pages, stored_pages, touched_since, written}
-use Rattle.kernel_model.specs.Choice.{pick}
+use Rattle.kernel_model.specs.Pages.{place, pages_of, is_inactive, is_stored, free, inactive_pages, stored_pages, touched_since, written}
 use Rattle.kernel_model.specs.Scan.{scan, scan_rest, scan_inactive, first_active, first_inactive}
 use Rattle.kernel_model.specs.Laws.Order.{Has}
 use Rattle.kernel_model.proofs.Laws.Queues.{first_active-is, first_inactive-is}
-use Rattle.page_queues.specs.Pages.{Pages, key_of, page_of, active as active_keys, inactive as inactive_keys, stored as stored_keys, free as free_in, is_marked}
+use Rattle.kernel_model.proofs.Laws.Present.{held-mapped}
+use Rattle.page_queues.specs.Pages.{Pages, page_of, active as active_keys, inactive as inactive_keys, stored as stored_keys, free as free_in, is_marked}
 use Rattle.purge_pick.specs.Picks.{picked}
 use Rattle.pageout_scan.specs.declared.plan.ScanPlan.{ScanPlan}
-use Rattle.pageout_scan.specs.declared.plan.ScanPlan.TheVariants.{Enough as PlanEnough, Deactivate, Purge, Reactivate, Free, Compress, Requeue, Idle as PlanIdle}
+use Rattle.pageout_scan.specs.declared.plan.ScanPlan.TheVariants.{Enough as PlanEnough, Deactivate, Reactivate, Free, Compress, Requeue, Idle as PlanIdle}
 use Rattle.pageout_scan.specs.Plans.{scan_plan, plan_of_rest, plan_of_inactive}
-use Rattle.vm_object.specs.Objects.{Object, is_written}
+use Rattle.vm_object.specs.Objects.{is_written}
 use Rattle.kernel_tables.specs.Values.{TableValues}
 use Rattle.kernel_tables.specs.Stands.{Stands}
 use Rattle.kernel_tables.specs.Moves.{reply_of, first_written}
 use Rattle.kernel_tables.proofs.AskLemmas.{inactive-are}
 use Rattle.kernel_tables.proofs.Choices.{pick-is}
 use Rattle.kernel_tables.proofs.Counting.{pages-count}
-use Rattle.kernel_tables.proofs.HeldMapped.{held-mapped}
 use Rattle.kernel_tables.proofs.PageKeys.{key_of-page}
 use Rattle.kernel_tables.proofs.PageMoves.{present-inactive}
 use Rattle.kernel_tables.proofs.Recharges.{page-object}

@@ -1,15 +1,12 @@
 -- The scan moves one page: what the tables are afterwards.
-use Rattle.std.proofs.Common.{◌≡◌, ℕ, zero, suc, ◌+◌, ◌-◌, ◌<◌, ◌≤◌, List, [], ◌∷◌, length, map, if◌then◌else◌, not, Option, Some, None, slice_get, get_or, nat_eq, nat_lt, count_by, refl, sym, ap, ap₂, ◌∙◌, subst, Bool, true, false, ◌&&◌, inl, inr, arith, zero-le}
+use Rattle.std.proofs.Common.{◌≡◌, ℕ, ◌+◌, ◌-◌, ◌<◌, ◌≤◌, List, [], ◌∷◌, length, map, if◌then◌else◌, not, Some, slice_get, get_or, nat_eq, refl, sym, ap, ap₂, ◌∙◌, subst, Bool, true, false, ◌&&◌, inl, arith}
 use Rattle.std.specs.Prelude.{IsTrue}
 use Rattle.std.proofs.lemmas.Bool.{false≢true, and_right}
-use Rattle.std.proofs.lemmas.Bool.Decides.{nat_tests}
 use Rattle.kern_ids.specs.declared.entries.Entry.{Entry}
 use Rattle.kern_ids.specs.declared.ids.PageId.{PageId}
-use Rattle.kern_ids.specs.declared.calls.Call.{Call}
 use Rattle.kern_ids.specs.declared.calls.Call.TheVariants.{Scan}
 use Rattle.kern_ids.specs.declared.calls.Queue.{Queue}
 use Rattle.kern_ids.specs.declared.calls.Queue.TheVariants.{Obsolete, Lifo, Fifo}
-use Rattle.kern_ids.specs.declared.replies.Reply.{Reply}
 use Rattle.kern_ids.specs.declared.replies.Reply.TheVariants.{Moved}
 use Rattle.kern_ids.specs.declared.replies.Move.{Move}
 use Rattle.kern_ids.specs.declared.replies.Move.TheVariants.{Deactivated, Reactivated, Freed, Compressed, Requeued}
@@ -19,21 +16,21 @@ use Rattle.kernel_model.specs.declared.place.Placed.{Placed}
 use Rattle.kernel_model.specs.System.{System}
 use Rattle.kernel_model.specs.Valid.{IsValidBoot}
 use Rattle.kernel_model.specs.Lists.{pair_lt}
-use Rattle.kernel_model.specs.Newest.{newest}
-use Rattle.kernel_model.specs.Pages.{place, placed, pages_of, same_page, moved_to, is_active, is_inactive, is_stored, touched_since, written, entered, next_entered, left, active_pages, inactive_pages}
+use Rattle.kernel_model.specs.Pages.{place, placed, pages_of, same_page, moved_to, is_active, is_inactive, is_stored, touched_since, entered, left, active_pages, inactive_pages}
 use Rattle.kernel_model.specs.Deadlines.{Deadlines, deadlines, of_queue}
 use Rattle.kernel_model.specs.Answers.{answer}
 use Rattle.kernel_model.specs.Histories.{IsLegal, fits}
-use Rattle.kernel_model.specs.Laws.Frames.{bit, is_page}
+use Rattle.kernel_model.specs.Laws.Frames.{bit}
 use Rattle.kernel_model.specs.Laws.Kinds.{moved_entry}
 use Rattle.kernel_model.specs.Laws.Order.{Has}
+use Rattle.kernel_model.specs.Laws.Present.{is_absent}
 use Rattle.kernel_model.specs.Laws.Queues.{KeepsPages}
-use Rattle.kernel_model.proofs.Laws.Bounds.{nat_eq-swap, counted-le, scan-answer, frames-hold}
-use Rattle.kernel_model.proofs.Laws.Counting.{count_by-none}
+use Rattle.kernel_model.proofs.Laws.Bounds.{nat_eq-swap, scan-answer, frames-hold}
 use Rattle.kernel_model.proofs.Laws.Frames.{pages-page}
 use Rattle.kernel_model.proofs.Laws.Kept.{entered-kept, written-kept}
 use Rattle.kernel_model.proofs.Laws.Kinds.{placed-moved, touched_since-moved, entered-deactivated}
-use Rattle.kernel_model.proofs.Laws.Pages.{entered-more, entered-none, left-is}
+use Rattle.kernel_model.proofs.Laws.Pages.{left-is}
+use Rattle.kernel_model.proofs.Laws.Present.{placed-since, inactive-entered}
 use Rattle.kernel_model.proofs.Laws.Queues.{pair_lt-newer, first_active-is, first_inactive-is}
 use Rattle.kernel_model.proofs.Laws.Scans.{scan-moved, chosen_page}
 use Rattle.kernel_model.proofs.Laws.Untouched.{has-pages}
@@ -42,14 +39,13 @@ use Rattle.token_list.specs.Dues.{lowered_by}
 use Rattle.ripen_advance.specs.Queues.{QueueDues, dues_in}
 use Rattle.purge_pick.specs.Follows.{Follows}
 use Rattle.purge_pick.proofs.FollowLemmas.{departed-follows}
-use Rattle.vm_object.specs.Objects.{Object, object_at, owner as owner_in}
-use Rattle.task_ledger.specs.declared.account.Account.{Account}
-use Rattle.kernel_tables.specs.Values.{TableValues, entry_of}
-use Rattle.kernel_tables.specs.Stands.{Stands, PagesStand, HasDues}
+use Rattle.vm_object.specs.Objects.{object_at, owner as owner_in}
+use Rattle.kernel_tables.specs.Values.{TableValues}
+use Rattle.kernel_tables.specs.Stands.{Stands, HasDues}
 use Rattle.kernel_tables.specs.Moves.{moved_from, movable, moved_first, told_of, entered_by, recharged, IsChargeable, CanTell}
 use Rattle.kernel_tables.proofs.Kept.{kept-objects}
 use Rattle.kernel_tables.proofs.PageKeys.{key_of-page, same_itself}
-use Rattle.kernel_tables.proofs.PageMoves.{PagesHold, stamped, is_absent, placed-since, hold-placed, hold-absented, hold-stands, stands-hold}
+use Rattle.kernel_tables.proofs.PageMoves.{PagesHold, stamped, hold-placed, hold-absented, hold-stands, stands-hold}
 use Rattle.kernel_tables.proofs.PageCharges.{ChargesHold, charges-stand, page-fits, has-counted}
 use Rattle.kernel_tables.proofs.OnlyPages.{OnlyPages, same-maps, same-mapped, same-state, same-deadlines, charged-stand, only-pages-stand}
 use Rattle.kernel_tables.proofs.Recharges.{page-object, recharge-can, recharge-does}
@@ -106,39 +102,6 @@ moved-hold boot past who Reactivated p v w pages three key h = moved-put boot pa
 moved-hold boot past who Freed p v w pages three key h = moved-away boot past who Freed p v w pages (get_or (inactive_keys pages) 0 0) three key refl h
 moved-hold boot past who Compressed p v w pages three key h = moved-put boot past who Compressed p v w pages (get_or (inactive_keys pages) 0 0) 2 (omega arith) three key refl refl refl refl h
 moved-hold boot past who Requeued p v w pages three key h = moved-put boot past who Requeued p v w pages (get_or (inactive_keys pages) 0 0) 0 (omega arith) three key refl refl refl refl h
-
--- no more pages are Inactive than were ever deactivated
-inactive_step : (boot : System) (who : ℕ) (call : Call) (reply : Reply) (before : List Entry) → inactive_pages boot before ≤ entered before → inactive_pages boot (entry_of who call reply ∷ before) ≤ entered (entry_of who call reply ∷ before)
-unfolding next_entered
-inactive_step boot who call (Moved Deactivated p) before h =
-    let c : inactive_pages boot (entry_of who call (Moved Deactivated p) ∷ before) ≤ inactive_pages boot before + 1 = counted-le boot (entry_of who call (Moved Deactivated p)) before is_inactive refl refl in
-    let d : entered (entry_of who call (Moved Deactivated p) ∷ before) ≡ entered before + 1 = entered-more (entry_of who call (Moved Deactivated p)) before in
-    omega arith
-inactive_step boot who call (Moved Reactivated p) before h =
-    let c : inactive_pages boot (entry_of who call (Moved Reactivated p) ∷ before) ≤ inactive_pages boot before + 0 = counted-le boot (entry_of who call (Moved Reactivated p)) before is_inactive refl refl in
-    let d : entered (entry_of who call (Moved Reactivated p) ∷ before) ≡ entered before = entered-more (entry_of who call (Moved Reactivated p)) before in
-    omega arith
-inactive_step boot who call (Moved Freed p) before h =
-    let c : inactive_pages boot (entry_of who call (Moved Freed p) ∷ before) ≤ inactive_pages boot before + 0 = counted-le boot (entry_of who call (Moved Freed p)) before is_inactive refl refl in
-    let d : entered (entry_of who call (Moved Freed p) ∷ before) ≡ entered before = entered-more (entry_of who call (Moved Freed p)) before in
-    omega arith
-inactive_step boot who call (Moved Compressed p) before h =
-    let c : inactive_pages boot (entry_of who call (Moved Compressed p) ∷ before) ≤ inactive_pages boot before + 0 = counted-le boot (entry_of who call (Moved Compressed p)) before is_inactive refl refl in
-    let d : entered (entry_of who call (Moved Compressed p) ∷ before) ≡ entered before = entered-more (entry_of who call (Moved Compressed p)) before in
-    omega arith
-inactive_step boot who call (Moved Requeued p) before h =
-    let c : inactive_pages boot (entry_of who call (Moved Requeued p) ∷ before) ≤ inactive_pages boot before + 0 = counted-le boot (entry_of who call (Moved Requeued p)) before is_inactive refl refl in
-    let d : entered (entry_of who call (Moved Requeued p) ∷ before) ≡ entered before = entered-more (entry_of who call (Moved Requeued p)) before in
-    omega arith
-inactive_step boot who call reply before h =
-    let c : inactive_pages boot (entry_of who call reply ∷ before) ≤ inactive_pages boot before + 0 = counted-le boot (entry_of who call reply) before is_inactive refl refl in
-    let d : entered (entry_of who call reply ∷ before) ≡ entered before = entered-more (entry_of who call reply) before in
-    omega arith
-
-pub inactive-entered : (boot : System) (past : List Entry) → inactive_pages boot past ≤ entered past
-unfolding placed newest
-inactive-entered boot [] = (let z = count_by-none (λ p. is_inactive (place boot [] p)) (λ p. refl) (pages_of boot) in omega arith)
-inactive-entered boot (e ∷ before) = inactive_step boot e.who e.call e.reply before (inactive-entered boot before)
 
 -- the tokens once a page more is Inactive, and once one is it no more
 abbrev lowered : QueueDues → QueueDues

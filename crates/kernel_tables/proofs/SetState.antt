@@ -31,6 +31,7 @@ use Rattle.kernel_model.proofs.Laws.Answers.{accepted-no_object}
 use Rattle.kernel_model.proofs.Laws.Held.{not_false, tokens-hold}
 use Rattle.kernel_model.proofs.Laws.Kinds.{deadlines-set}
 use Rattle.kernel_model.proofs.Laws.Pages.{left-is}
+use Rattle.kernel_model.proofs.Laws.Present.{standing-group, inactive-entered}
 use Rattle.link_list.specs.KeyLists.{has, list_at, place_of, without}
 use Rattle.link_list.proofs.Places.{place_nowhere, place_of-removed}
 use Rattle.volatile_groups.specs.Grouped.{first_list, members, queue_at, queue_of, AreGroups}
@@ -47,9 +48,9 @@ use Rattle.task_ledger.specs.Accounts.{account_of, counts_plus, AreWithin}
 use Rattle.kernel_tables.specs.Values.{TableValues, entry_of}
 use Rattle.kernel_tables.specs.Charges.{charge, charge_of, framed_of, stored_of, relieved, burdened}
 use Rattle.kernel_tables.specs.Settings.{entered_at, token_taken, token_added}
-use Rattle.kernel_tables.specs.Stands.{Stands, ObjectsStand, QueuesStand}
+use Rattle.kernel_tables.specs.Stands.{Stands, ObjectsStand}
 use Rattle.kernel_tables.proofs.Accepted.{accepted-answer, fitting-names}
-use Rattle.kernel_tables.proofs.Choices.{has-tokens, volatile-queue, standing-group}
+use Rattle.kernel_tables.proofs.Choices.{has-tokens, volatile-queue}
 use Rattle.kernel_tables.proofs.Lists.{has-fact}
 use Rattle.kernel_tables.proofs.ObjectCalls.{declared}
 use Rattle.kernel_tables.proofs.Objects.{owner-stands, mapped-stands}
@@ -58,7 +59,6 @@ use Rattle.kernel_tables.proofs.ObjectEntries.{spared-bands}
 use Rattle.kernel_tables.proofs.SetEntry.{emptying, row-leaves, row-group, set-spares, set-mapped, set-owner, set-state_other, set-standing_other, set-stands_other, set-stands_here, set-stamp, set-group, set-placed, set-inactive, set-left, set-pages, set-accounts, set-objects, setting}
 use Rattle.kernel_tables.proofs.SetQueues.{left-group, groups-set, taken-follows, token-added_follows, token-room}
 use Rattle.kernel_tables.proofs.Unmapped.{caller-mapped}
-use Rattle.kernel_tables.proofs.Emptied.{inactive-entered}
 
 -- an object that is asked to be OBSOLETE is asked to be in group 0
 obsolete_bits : (a b c d o l : Bool) (k : ℕ) (q : Queue) (g : ℕ) → (if a then None else if b then Some ask_nonvolatile else if c then Some ask_empty else if d then Some (ask_volatile (if o then Obsolete else if l then Lifo else Fifo) (if o then 0 else k)) else None) ≡ Some (ask_volatile q g) → q ≡ Obsolete → g ≡ 0

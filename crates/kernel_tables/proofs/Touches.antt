@@ -1,8 +1,6 @@
 -- A page is touched: it is marked where it is Inactive, and becomes Active where it has no frame.
-use Rattle.std.proofs.Common.{◌≡◌, ℕ, ◌+◌, ◌-◌, ◌*◌, ◌/◌, ◌<◌, ◌≤◌, List, [], ◌∷◌, ◌++◌, length, set, cond, not, if◌then◌else◌, Option, Some, None, nat_eq, nat_lt, count_by, refl, sym, ap, ap₂, ◌∙◌, subst, Bool, true, false, ◌&&◌, ◌||◌, inl, inr, ◌⊎◌, arith, zero-le, length-append}
-use Rattle.std.specs.List.{range_with_len}
-use Rattle.std.proofs.lemmas.Bool.{cases_Bool, cases_eq, cases_lt, true≢false, false≢true, eq-eqb, ne_eqb, lt-ltb, le-ltb}
-use Rattle.std.proofs.lemmas.Bool.Decides.{nat_tests}
+use Rattle.std.proofs.Common.{◌≡◌, ℕ, ◌+◌, ◌-◌, ◌*◌, ◌/◌, ◌<◌, ◌≤◌, List, [], ◌∷◌, ◌++◌, length, set, not, if◌then◌else◌, nat_eq, count_by, refl, sym, ap, ap₂, ◌∙◌, subst, Bool, true, false, ◌&&◌, ◌||◌, inl, inr, ◌⊎◌, arith, length-append}
+use Rattle.std.proofs.lemmas.Bool.{cases_Bool, cases_eq, cases_lt, false≢true, eq-eqb, ne_eqb, lt-ltb, le-ltb}
 use Rattle.kern_ids.specs.declared.ids.PageId.{PageId}
 use Rattle.kernel_model.specs.declared.place.Place.{Place}
 use Rattle.kernel_model.specs.declared.place.Place.TheVariants.{Absent, Active, Inactive, Stored}
@@ -15,6 +13,7 @@ use Rattle.kernel_model.specs.Laws.Frames.{bit}
 use Rattle.kernel_model.specs.Laws.Order.{Has}
 use Rattle.kernel_model.proofs.Laws.Agree.{count_by-cons}
 use Rattle.kernel_model.proofs.Laws.Frames.{same_page-is}
+use Rattle.kernel_model.specs.Laws.Present.{is_absent}
 use Rattle.link_list.specs.KeyLists.{list_at, without}
 use Rattle.std.proofs.lemmas.List.{length-map, length-set}
 use Rattle.page_queues.specs.Tallies.{taken}
@@ -24,7 +23,7 @@ use Rattle.kernel_tables.specs.Moves.{touched, place_touched}
 use Rattle.kernel_tables.proofs.PageCharges.{has-counted}
 use Rattle.kernel_tables.proofs.Lists.{placed-at}
 use Rattle.kernel_tables.proofs.PageKeys.{same_itself}
-use Rattle.kernel_tables.proofs.PageMoves.{PagesHold, stamped, is_absent, hold-placed, hold-marked, hold-agree}
+use Rattle.kernel_tables.proofs.PageMoves.{PagesHold, stamped, hold-placed, hold-marked, hold-agree}
 
 abbrev pub put_at : Place → ℕ → Placed
 put_at x n = record { place = x; number = n }

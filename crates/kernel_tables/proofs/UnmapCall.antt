@@ -21,6 +21,7 @@ use Rattle.kernel_model.specs.Laws.Kinds.{unmap_entry}
 use Rattle.kernel_model.proofs.Laws.Answers.{accepted-no_object}
 use Rattle.kernel_model.proofs.Laws.Held.{not_false}
 use Rattle.kernel_model.proofs.Laws.Queues.{range-has}
+use Rattle.kernel_model.proofs.Laws.Present.{standing-group}
 use Rattle.link_list.specs.KeyLists.{place_of, without}
 use Rattle.page_queues.specs.Pages.{Pages, is_marked, is_of_first, without_object, inactive as inactive_keys}
 use Rattle.page_queues.specs.Tallies.{count_of}
@@ -37,7 +38,7 @@ use Rattle.kernel_tables.specs.Charges.{charge, charge_of, framed_of, stored_of,
 use Rattle.kernel_tables.specs.Ends.{StandsOver, first_taken}
 use Rattle.kernel_tables.specs.Stands.{Stands, PagesStand, QueuesStand, ObjectsStand, AccountsStand}
 use Rattle.kernel_tables.proofs.Accepted.{accepted-answer, fitting-names}
-use Rattle.kernel_tables.proofs.Choices.{queue_of-member, same_queue-itself, standing-group, has-tokens}
+use Rattle.kernel_tables.proofs.Choices.{queue_of-member, same_queue-itself, has-tokens}
 use Rattle.kernel_tables.proofs.ObjectCalls.{declared, caller}
 use Rattle.kernel_tables.proofs.ObjectCharges.{owner-declared, length-relieved}
 use Rattle.kernel_tables.proofs.ObjectEntries.{changed-here, spared-bands}

@@ -30,6 +30,7 @@ use Rattle.kernel_model.proofs.Laws.Order.{find-none}
 use Rattle.kernel_model.proofs.Laws.Pages.{left-is}
 use Rattle.kernel_model.proofs.Laws.Queues.{group-filter}
 use Rattle.kernel_model.proofs.Laws.State.{state-kept}
+use Rattle.kernel_model.proofs.Laws.Present.{inactive-entered}
 use Rattle.link_list.specs.KeyLists.{without}
 use Rattle.page_queues.specs.Pages.{Pages, is_marked, is_of_first, without_object, inactive as inactive_keys}
 use Rattle.page_queues.specs.Tallies.{count_of}
@@ -46,7 +47,6 @@ use Rattle.task_ledger.specs.declared.account.Account.{Account}
 use Rattle.kernel_tables.specs.Charges.{charge, charge_of, relieved, burdened}
 use Rattle.kernel_tables.specs.Stands.{PagesStand, QueuesStand, ObjectsStand, AccountsStand, HasGroups}
 use Rattle.kernel_tables.proofs.Dropped.{pages-dropped, inactive-dropped}
-use Rattle.kernel_tables.proofs.Emptied.{inactive-entered}
 use Rattle.kernel_tables.proofs.Kept.{kept-pages, kept-queues, kept-groups}
 use Rattle.kernel_tables.proofs.Lists.{removed-at}
 use Rattle.kernel_tables.proofs.MapCall.{runs-for, same-number, other-number}

@@ -1,4 +1,4 @@
--- What stands after a history, of a live task and of a mapped object.
+-- The state of a live task and of a mapped object after a history.
 use Rattle.std.specs.Prelude.{ℕ, List}
 use Rattle.kern_ids.specs.declared.entries.Entry.{Entry}
 use Rattle.kernel_model.specs.System.{System}

@@ -56,7 +56,7 @@ pub fn wishes(alloc: Global, tasks: &[TaskBoot]) -> Result<Vec<Band>, NoMemory>
         .map_err(|_| NoMemory)
 }
 
-// The band in which a task stands at the start.
+// The band in which a task is at the start.
 fn first_band(task: &TaskBoot) -> Band
     ensures { result ≡ starts.first_band task.now }
 {

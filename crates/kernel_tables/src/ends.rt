@@ -58,8 +58,8 @@ impl ObjectParts {
         }
     }
 
-    /// An object that nobody maps any more leaves its group, if it is in one, with the first token of its queue;
-    /// all its pages become Absent, and the tokens are told of those that were Inactive.
+    /// An object that nobody maps any more leaves its group, if it is in one, with the first token of its
+    /// queue; all its pages become Absent, and the tokens count those that were Inactive.
     fn retire(&mut self, o: ObjId)
         requires object { o < length self.old.table }
         requires sized { o < length self.old.pages.sizes }
@@ -126,8 +126,8 @@ impl TaskParts {
 }
 
 impl Parts {
-    /// A task ceases to map an object: its charge goes to the next owner, and where the task was the last one that
-    /// mapped it, the object is retired.
+    /// A task ceases to map an object: its charge goes to the next owner, and where the task was the last one
+    /// that mapped it, the object is retired.
     fn leave(&mut self, o: ObjId, t: TaskId)
         ghost past: { List Entry }
         requires over { StandsOver (values self.old) past }
@@ -184,7 +184,8 @@ impl Parts {
         }
     }
 
-    /// A task ends: it ceases to map its objects, its account is no longer live, it leaves its band, and it counts no more.
+    /// A task ends: it ceases to map its objects, its account is no longer live, it leaves its band, and it
+    /// counts no more.
     fn end(&mut self, t: TaskId)
         ghost past: { List Entry }
         requires stands { Stands (values self.old) past }

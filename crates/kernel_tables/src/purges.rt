@@ -28,7 +28,7 @@ use kern_ids::replies::Reply;
 use purge_pick::choice::Pick;
 
 impl ObjectParts {
-    /// All pages of an object become Absent, the tokens are told of those that were Inactive, and the object is
+    /// All pages of an object become Absent, the tokens count those that were Inactive, and the object is
     /// EMPTY with no written page.
     fn empty(&mut self, o: ObjId)
         requires object { o < length self.old.table }
@@ -50,7 +50,7 @@ impl ObjectParts {
 }
 
 impl Parts {
-    /// An object that a task maps is emptied: all its pages become Absent, the tokens are told of those that were
+    /// An object that a task maps is emptied: all its pages become Absent, the tokens count those that were
     /// Inactive, it is EMPTY with no written page, and its charge is taken off its owner's account.
     pub(crate) fn empty_object(&mut self, o: ObjId)
         ghost past: { List Entry }
@@ -90,7 +90,8 @@ impl Parts {
         purge_pick::pick(&self.objects.tokens, &self.objects.groups)
     }
 
-    /// The purge for a ripe token: the token goes, the object leaves its group and is emptied. Answers the object.
+    /// The purge for a ripe token: the token goes, the object leaves its group and is emptied. Answers the
+    /// object.
     fn take_picked(&mut self, p: Pick) -> Reply
         ghost past: { List Entry }
         requires stands { Stands (values self.old) past }
@@ -138,7 +139,8 @@ impl Parts {
         }
     }
 
-    /// Forced, where it is not refused: the object of the forced purge, or nothing where no object is volatile.
+    /// Forced, where it is not refused: the object of the forced purge, or nothing where no object is
+    /// volatile.
     pub(crate) fn forced(&mut self, who: ThreadId) -> Reply
         ghost past: { List Entry }
         requires stands { Stands (values self.old) past }

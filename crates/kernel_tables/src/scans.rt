@@ -62,7 +62,7 @@ fn move_first(pages: &mut PageQueues, how: Move)
     }
 }
 
-/// The tokens are told of a page that entered the inactive queue, or left it.
+/// The tokens count a page that entered the inactive queue, or left it.
 fn tell(tokens: &mut TokenQueues, how: Move)
     requires { moves.CanTell how tokens.old.ahead }
     ensures { tokens.new ≡ moves.told_of how tokens.old }

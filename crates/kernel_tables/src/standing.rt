@@ -1,4 +1,4 @@
-//! What stands after a history, of a task and of an object.
+//! The state of a task and of an object after a history.
 
 ghost use Rattle.std.specs.Prelude.{◌≡◌, ◌<◌, ℕ, List, length, true};
 ghost use Rattle.std.specs.Option.{unwrap_or};
@@ -17,7 +17,7 @@ use kern_ids::ids::{ObjId, TaskId};
 use kern_ids::replies::Counts;
 use priority_bands::Bands;
 
-/// What stands of a live task: its band, whether it is active, and its pages.
+/// The state of a live task: its band, whether it is active, and its pages.
 #[derive(Clone, Copy)]
 pub struct LiveTask {
     pub band: u32,
@@ -25,7 +25,7 @@ pub struct LiveTask {
     pub counts: Counts,
 }
 
-/// What stands of a mapped object: its state, and how many of its pages are Active, Inactive and
+/// The state of a mapped object: its purgeable state, and how many of its pages are Active, Inactive and
 /// Stored.
 #[derive(Clone, Copy)]
 pub struct MappedObject {
@@ -35,7 +35,7 @@ pub struct MappedObject {
     pub stored: u32,
 }
 
-/// The number of the band in which a task stands, 0 where it stands in none.
+/// The number of the band in which a task is, 0 where it is in none.
 fn band_number(bands: &Bands, t: TaskId) -> u32
     ensures { result ≡ unwrap_or (place_of t bands.now) 0 }
 {
@@ -63,7 +63,7 @@ impl Parts {
         }
     }
 
-    /// What stands of a task, if it lives.
+    /// The state of a task, if it lives.
     pub(crate) fn task(&self, t: TaskId) -> Option<LiveTask>
         ghost past: { List Entry }
         requires stands { Stands (values self.now) past }
@@ -93,7 +93,7 @@ impl Parts {
         }
     }
 
-    /// What stands of an object, if it is mapped.
+    /// The state of an object, if it is mapped.
     pub(crate) fn object(&self, o: ObjId) -> Option<MappedObject>
         ghost past: { List Entry }
         requires stands { Stands (values self.now) past }

@@ -37,7 +37,7 @@ fn leave_group(groups: &mut Groups, o: ObjId, leaves: bool)
     }
 }
 
-/// An object that stands in no group enters one, where it is to.
+/// An object that is in no group enters one, where it is to.
 fn enter_group(groups: &mut Groups, o: ObjId, done: &SetAnswer)
     requires absent { IsNone (place_of o groups.old) }
     requires group { (at : AQueue × ℕ) → done.now.enter ≡ Some at → at.1 < 8 }
@@ -75,7 +75,7 @@ fn add_token(tokens: &mut TokenQueues, done: &SetAnswer)
     }
 }
 
-/// The first token of the queue in which an object stood goes.
+/// The first token of an object's old queue goes.
 fn take_first(tokens: &mut TokenQueues, from: Option<Queue>)
     requires { (q : AQueue) → from ≡ Some q → 0 < length (dues_in tokens.old q) }
     ensures { tokens.new ≡ token_taken true false from tokens.old }

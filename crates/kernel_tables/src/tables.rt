@@ -42,7 +42,7 @@ impl Model for Tables {
 }
 
 impl Tables {
-    /// The tables at the start: they stand for the empty history. All memory is taken here.
+    /// The tables at the start: they represent the empty history. All memory is taken here.
     pub fn boot(alloc: Global, boot: &Boot) -> Result<Tables, NoMemory>
         ensures boot { IfOk result (λ tables. tables.boot ≡ boot.now) }
         ensures stands { IfOk result (λ tables. Stands tables []) }
@@ -51,9 +51,9 @@ impl Tables {
         Ok(Tables { parts })
     }
 
-    /// Answers a call, and counts it in: the reply is the definition's over every history that the tables stand for,
-    /// and afterwards they stand for that history and the call's entry. A Read in range is given the bytes that the
-    /// history gives to its object. Takes no memory, and always answers.
+    /// Answers a call, and counts it in: the reply is the definition's over every history that the tables
+    /// represent, and afterwards they represent that history and the call's entry. A Read in range is given
+    /// the bytes that the history gives to its object. Takes no memory, and always answers.
     pub fn step(&mut self, who: ThreadId, call: &Call, seen: ByteLine) -> Reply
         ghost past: { List Entry }
         requires stands { Stands self.old past }
@@ -86,7 +86,7 @@ impl Tables {
         self.parts.free()
     }
 
-    /// What stands of a task, if it lives. Takes no memory.
+    /// The state of a task, if it lives. Takes no memory.
     pub fn task(&self, t: TaskId) -> Option<LiveTask>
         ghost past: { List Entry }
         requires stands { Stands self.now past }
@@ -96,7 +96,7 @@ impl Tables {
         self.parts.task(t)
     }
 
-    /// What stands of an object, if it is mapped. Takes no memory.
+    /// The state of an object, if it is mapped. Takes no memory.
     pub fn object(&self, o: ObjId) -> Option<MappedObject>
         ghost past: { List Entry }
         requires stands { Stands self.now past }
@@ -106,7 +106,7 @@ impl Tables {
         self.parts.object(o)
     }
 
-    /// The pages by their places, as Info tells them. Takes no memory.
+    /// The pages by their places, as Info answers them. Takes no memory.
     pub fn frame_counts(&self) -> FrameCounts
         ghost past: { List Entry }
         requires { Stands self.now past }
@@ -115,7 +115,7 @@ impl Tables {
         self.parts.frame_counts()
     }
 
-    /// The tokens of each queue, as Purgeables tells them. Takes no memory.
+    /// The tokens of each queue, as Purgeables answers them. Takes no memory.
     pub fn token_counts(&self) -> TokenCounts
         ghost past: { List Entry }
         requires { Stands self.now past }

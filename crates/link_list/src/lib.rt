@@ -6,15 +6,13 @@ ghost use Rattle.std.specs.Prelude.{◌≡◌, ℕ, true, ◌∷◌, ◌++◌, �
 ghost use Rattle.link_list.specs.KeyLists.{has, list_at, place_of, list_with, after, without, IsOnceEach};
 
 mod fill;
-#[cfg(test)]
-mod tests;
 
 use fill::{count_up, owner_marks};
 use kern_ids::entries::NoMemory;
 use std::alloc::Global;
 use std::marker::Model;
 
-/// `N` lists of keys below a number, `cap`. Each key stands at most once over all lists.
+/// `N` lists of keys below a number, `cap`. Each key is in the lists at most once.
 ///
 /// The keys and an end mark for each list are linked into a ring a list.
 #[derive(Drop)]
@@ -50,7 +48,7 @@ impl<const N: usize> Lists<N> {
         })
     }
 
-    /// Puts a key that stands nowhere at the tail of list l.
+    /// Puts a key that is in no list at the tail of list l.
     pub fn push_back(&mut self, l: usize, key: usize)
         requires list { l < N }
         requires key { key < self.old.cap }
@@ -67,7 +65,7 @@ impl<const N: usize> Lists<N> {
         self.owner[key] = l;
     }
 
-    /// Puts a key that stands nowhere at the head of list l.
+    /// Puts a key that is in no list at the head of list l.
     pub fn push_front(&mut self, l: usize, key: usize)
         requires list { l < N }
         requires key { key < self.old.cap }
@@ -108,7 +106,7 @@ impl<const N: usize> Lists<N> {
         if first < self.cap { Some(first) } else { None }
     }
 
-    /// The key that comes right after a key in its list; None where the key stands nowhere or is the last.
+    /// The key that comes right after a key in its list; None where it is in no list or is the last.
     pub fn next(&self, key: usize) -> Option<usize>
         requires key { key < self.now.cap }
         ensures behind { result ≡ after key (list_with key self.now.lists) }
@@ -125,7 +123,7 @@ impl<const N: usize> Lists<N> {
         }
     }
 
-    /// The number of the list in which a key stands; None where it stands nowhere.
+    /// The number of the list that a key is in; None where it is in none.
     pub fn list_of(&self, key: usize) -> Option<usize>
         requires key { key < self.now.cap }
         ensures place { result ≡ place_of key self.now.lists }
@@ -135,7 +133,7 @@ impl<const N: usize> Lists<N> {
         if l < N { Some(l) } else { None }
     }
 
-    /// That there are N lists, each key stands at most once, and all are below `cap`, for a proof that needs it.
+    /// That there are N lists, each key is in them at most once, and all are below `cap`, for a proof that needs it.
     pub fn each_once(&self)
         ensures count { length self.now.lists ≡ N }
         ensures once { IsOnceEach self.now.lists }

@@ -9,8 +9,6 @@ ghost use Rattle.page_queues.specs.Pages.{IsPage, key_of, page_of, active, inact
 
 mod keys;
 mod tallied;
-#[cfg(test)]
-mod tests;
 
 use kern_ids::entries::NoMemory;
 use kern_ids::ids::{ObjId, PageId};
@@ -261,7 +259,7 @@ impl PageQueues {
         self.queues.front(l).unwrap()
     }
 
-    /// A key leaves its list, if it stands in one, goes to the tail of list l, and loses its mark.
+    /// A key leaves its list, if it is in one, goes to the tail of list l, and loses its mark.
     fn move_to(&mut self, key: usize, l: usize)
         requires list { l < 3 }
         requires key { key < length self.old.marks }
@@ -273,7 +271,7 @@ impl PageQueues {
         self.marks[key] = false;
     }
 
-    /// A key leaves its list, if it stands in one, and loses its mark.
+    /// A key leaves its list, if it is in one, and loses its mark.
     fn make_absent(&mut self, key: usize)
         requires key { key < length self.old.marks }
         ensures { self.new ≡ absented self.old key }

@@ -60,7 +60,7 @@ impl Tallied {
         })
     }
 
-    /// A key that stands in no list goes to the tail of list l.
+    /// A key that is in no list goes to the tail of list l.
     pub(crate) fn push_back(&mut self, l: usize, key: usize)
         requires list { l < 3 }
         requires key { key < 256 * self.old.objects }
@@ -74,7 +74,7 @@ impl Tallied {
         self.counts[3 * (key / 256) + l] += 1;
     }
 
-    /// A key leaves its list, if it stands in one.
+    /// A key leaves its list, if it is in one.
     pub(crate) fn take(&mut self, key: usize)
         requires key { key < 256 * self.old.objects }
         ensures objects { self.new.objects ≡ self.old.objects }

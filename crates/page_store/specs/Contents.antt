@@ -23,6 +23,10 @@ abbrev pub byte_at : List (ℕ × ℕ) → ℕ → ℕ
 byte_at [] place = 0
 byte_at (entry ∷ rest) place = if nat_eq entry.0 place then entry.1 else byte_at rest place
 
+-- two functions have the same byte at each place of an object
+abbrev pub AreAlike : (ℕ → ℕ) → (ℕ → ℕ) → Type 0
+AreAlike f g = (place : ℕ) → place < 1048576 → f place ≡ g place
+
 -- the byte that a write of some bytes from a place on gives to a place
 abbrev pub written_at : ℕ → List ℕ → ℕ → Option ℕ
 written_at off bytes place = if nat_le off place then slice_get bytes (place - off) else None

@@ -7,8 +7,6 @@ ghost use Rattle.page_store.specs.Contents.{nothing, bytes_of, byte_at, overwrit
 
 pub mod law;
 mod page_table;
-#[cfg(test)]
-mod tests;
 
 use kern_ids::entries::NoMemory;
 use kern_ids::lines::ByteLine;

@@ -1,9 +1,9 @@
 //! The pages of a body, in a slab.
 
-ghost use Rattle.std.specs.Prelude.{◌≡◌, ◌<◌, ◌≤◌, ◌+◌, length, set, replicate, None, Some, IsSome, IsNone, is_some, IfOk, OnOk, OnErr, slice_index, option_map, ◌≢◌};
+ghost use Rattle.std.specs.Prelude.{◌≡◌, ◌<◌, ◌≤◌, ◌+◌, length, set, replicate, None, Some, IsSome, IsNone, is_some, IfOk, OnOk, OnErr, slice_index, ◌≢◌};
 ghost use Rattle.std.specs.Option.{option_map_or, unwrap_or};
-ghost use Rattle.slab.specs.Slab.{get as get_in, Updates, ContainsKey};
-ghost use Rattle.page_store.specs.Tables.{page_at, page_with, ArePages};
+ghost use Rattle.slab.specs.Slab.{get as get_in, Updates, ContainsKey, slab_len};
+ghost use Rattle.page_store.specs.Tables.{page_at, slot_with, ArePages};
 
 use kern_ids::entries::NoMemory;
 use slab::Slab;
@@ -43,7 +43,8 @@ fn no_keys(alloc: Global, n: usize) -> Result<Vec<Option<usize>>, NoMemory>
 fn overwrite(slab: &mut Slab<[u8; 4096]>, key: usize, at: usize, bytes: &[u8])
     requires key { ContainsKey slab.old key }
     requires inside { at + length bytes.now ≤ 4096 }
-    ensures { Updates slab.old slab.new key (option_map (λ page. page_with page at bytes.now) (get_in slab.old key)) }
+    ensures page { Updates slab.old slab.new key (slot_with (get_in slab.old key) at bytes.now) }
+    ensures len { slab_len slab.new ≡ slab_len slab.old }
 {
     if let Some(page) = slab.get_mut(key) {
         page[at..at + bytes.len()].copy_from_slice(bytes);
@@ -81,7 +82,7 @@ impl PageTable {
         }
     }
 
-    /// A page that is absent is there, and its bytes are 0; after want of memory nothing has changed.
+    /// A page that is absent is there, and its bytes are 0; out of memory, nothing has changed.
     pub(crate) fn add(&mut self, page: usize) -> Result<(), NoMemory>
         requires page { page < 256 }
         requires absent { IsNone (page_at self.old page) }
@@ -102,7 +103,7 @@ impl PageTable {
         requires page { page < 256 }
         requires there { IsSome (page_at self.old page) }
         requires inside { at + length bytes.now ≤ 4096 }
-        ensures { self.new ≡ set self.old page (option_map (λ old. page_with old at bytes.now) (page_at self.old page)) }
+        ensures { self.new ≡ set self.old page (slot_with (page_at self.old page) at bytes.now) }
     {
         if let Some(key) = self.keys[page] {
             overwrite(&mut self.slab, key, at, bytes);

@@ -8,8 +8,6 @@ ghost use Rattle.pageout_scan.specs.declared.plan.ScanPlan.TheVariants.{Idle};
 ghost use Rattle.pageout_scan.specs.Plans.{scan_plan, plan_of_inactive, takes_active, takes_inactive};
 
 pub mod plan;
-#[cfg(test)]
-mod tests;
 
 use kern_ids::ids::ObjId;
 use kernel_model::boot::Params;
@@ -22,7 +20,7 @@ use plan::ScanPlan;
 /// - Deactivate where fewer than `inactive` pages are Inactive and a page is Active.
 /// - Purge where a ripe token chooses an object, `ripe`.
 /// - Where a page is Inactive, of the one that was placed first: Reactivate where it is marked; Free where it
-///   wasn't written since its object was last emptied, which `written` tells; Compress where fewer than `store`
+///   wasn't written since its object was last emptied, which `written` says; Compress where fewer than `store`
 ///   pages are Stored; else Requeue.
 /// - Idle.
 ///

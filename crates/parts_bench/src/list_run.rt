@@ -46,7 +46,7 @@ impl ListRun {
         self.sum = mixed(self.sum, answer.unwrap_or(KEYS) as u64);
     }
 
-    /// Takes a key out of its list, or puts it into a list where it stands in none.
+    /// Takes a key out of its list, or puts it into a list where it is in none.
     fn change(&mut self, key: usize, list: usize, at_tail: bool) -> usize
         requires key { key < 1024 }
         requires list { list < 8 }

@@ -5,16 +5,13 @@ ghost use Rattle.std.specs.Prelude.{◌≡◌, ◌<◌, ℕ, Bool, true, [], rep
 ghost use Rattle.link_list.specs.KeyLists.{list_at, list_with, place_of, after, has};
 ghost use Rattle.priority_bands.specs.Banded.{removed, placed, tasks_from, IsFirstTrue, AreBands};
 
-#[cfg(test)]
-mod tests;
-
 use kern_ids::entries::NoMemory;
 use kern_ids::ids::{Band, TaskId};
 use link_list::Lists;
 use std::alloc::Global;
 use std::marker::Model;
 
-/// The tasks of each band, in order. A task stands in one band at most.
+/// The tasks of each band, in order. A task is in at most one band.
 #[derive(Drop)]
 pub struct Bands {
     lists: Lists<21>,
@@ -41,7 +38,7 @@ impl Bands {
         })
     }
 
-    /// A task leaves its band, if it stands in one, and goes to the tail of band b.
+    /// A task leaves its band, if it is in one, and goes to the tail of band b.
     pub fn place(&mut self, t: TaskId, b: Band)
         ensures { self.new ≡ placed self.old t b }
     {
@@ -49,7 +46,7 @@ impl Bands {
         self.lists.push_back(b.get() as usize, t.get() as usize);
     }
 
-    /// A task leaves its band, if it stands in one.
+    /// A task leaves its band, if it is in one.
     pub fn remove(&mut self, t: TaskId)
         ensures { self.new ≡ removed self.old t }
     {
@@ -59,7 +56,7 @@ impl Bands {
         }
     }
 
-    /// The band of a task; None exactly where it stands in none.
+    /// The band of a task; None exactly where it is in none.
     pub fn band_of(&self, t: TaskId) -> Option<Band>
         ensures { result ≡ place_of t self.now }
     {
@@ -75,7 +72,7 @@ impl Bands {
         TaskId::new(key as u32)
     }
 
-    /// The task right after a task in its band; None exactly where it stands in none or is the last.
+    /// The task right after a task in its band; None exactly where it is in none or is the last.
     pub fn next(&self, t: TaskId) -> Option<TaskId>
         ensures { result ≡ after t (list_with t self.now) }
     {

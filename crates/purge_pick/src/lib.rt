@@ -104,6 +104,3 @@ fn first_of_queue(g: &Groups, q: Queue) -> Option<ObjId>
     }
     None
 }
-
-#[cfg(test)]
-mod tests;

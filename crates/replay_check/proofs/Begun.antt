@@ -17,7 +17,8 @@ use Rattle.slow_kernel.specs.ObjectTables.{or_else}
 use Rattle.replay_check.specs.declared.verdicts.Verdict.{Verdict}
 use Rattle.replay_check.specs.declared.verdicts.Verdict.TheVariants.{Legal, Missing}
 use Rattle.replay_check.specs.Same.{same_call, same_reply}
-use Rattle.replay_check.specs.Verdicts.{of_thread, calls_of, is_call_at, is_next, reply_due, entry_fault, first_fault, has_more, unspent, verdict_of, IsWhole, AreFirst, IsBegun}
+use Rattle.replay_check.specs.Verdicts.{is_call_at, is_next, reply_due, entry_fault, first_fault, has_more, unspent, verdict_of, AreFirst, IsBegun}
+use Rattle.kernel_model.specs.Whole.{of_thread, calls_of, IsWhole}
 use Rattle.replay_check.proofs.Sames.{same_call-true, same_call-refl, same_reply-true, same_reply-refl}
 use Rattle.replay_check.proofs.Faults.{slice_get-append_seam, first_some-none, first_some-absent, or_else-none, first_fault-push, first_fault-none, first_fault-legal, entry_fault-right, right-entry}
 

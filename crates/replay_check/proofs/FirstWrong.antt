@@ -14,7 +14,8 @@ use Rattle.slow_kernel.specs.ObjectTables.{or_else}
 use Rattle.replay_check.specs.declared.verdicts.Verdict.{Verdict}
 use Rattle.replay_check.specs.declared.verdicts.Verdict.TheVariants.{Legal, WrongReply, WrongCall, Missing}
 use Rattle.replay_check.specs.Same.{same_reply}
-use Rattle.replay_check.specs.Verdicts.{of_thread, is_next, reply_due, judged, entry_fault, fault_at, first_fault, has_more, unspent, verdict_of, IsFaultAt, IsFirstUnspent, IsFirstWrong}
+use Rattle.replay_check.specs.Verdicts.{is_next, reply_due, judged, entry_fault, fault_at, first_fault, has_more, unspent, verdict_of, IsFaultAt, IsFirstUnspent, IsFirstWrong}
+use Rattle.kernel_model.specs.Whole.{of_thread}
 use Rattle.replay_check.proofs.Faults.{first_some-cons, first_some-absent, fault_at-before}
 use Rattle.replay_check.proofs.Begun.{spent-thread, unfaulted}
 

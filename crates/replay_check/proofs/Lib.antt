@@ -4,3 +4,7 @@ pub mod Begun
 pub mod Standing
 pub mod FirstWrong
 pub mod LineLaws
+pub mod Few
+pub mod Grown
+pub mod Ends
+pub mod LinesGrown

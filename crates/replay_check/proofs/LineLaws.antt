@@ -15,13 +15,14 @@ use Rattle.line_text.specs.Calls.{call_words, HasLine}
 use Rattle.line_text.proofs.GrammarLemmas.{ok_is}
 use Rattle.line_text.proofs.CutLaws.{words_again}
 use Rattle.history_text.specs.Entries.{entry_words, reply_words}
-use Rattle.history_reading.specs.Entries.{Parts, sign_cut, entry_of, HasText, IsLineOf}
-use Rattle.history_reading.specs.Replies.{HasReply}
-use Rattle.history_reading.proofs.EntryLaws.{front_words, entry_line, entry_again, entry_clean}
-use Rattle.history_reading.proofs.Signs.{decimal_unsigned, call_unsigned, line_unsigned, sign_again}
+use Rattle.history_text.specs.EntryReading.{Parts, sign_cut, entry_of, HasText, IsLineOf}
+use Rattle.history_text.specs.ReplyReading.{HasReply}
+use Rattle.history_text.proofs.EntryLaws.{front_words, entry_line, entry_again, entry_clean}
+use Rattle.history_text.proofs.Signs.{decimal_unsigned, call_unsigned, line_unsigned, sign_again}
 use Rattle.replay_check.specs.declared.verdicts.Verdict.TheVariants.{WrongReply}
 use Rattle.replay_check.specs.Same.{same_reply}
-use Rattle.replay_check.specs.Verdicts.{of_thread, is_call_at, is_next, reply_due}
+use Rattle.replay_check.specs.Verdicts.{is_call_at, is_next, reply_due}
+use Rattle.kernel_model.specs.Whole.{of_thread}
 use Rattle.replay_check.specs.Replays.{ReplayView, StandsFor}
 use Rattle.replay_check.specs.Lines.{front_text, IsNextCall, BeginsWithNumber}
 use Rattle.replay_check.proofs.Sames.{same_reply-true, same_reply-refl}

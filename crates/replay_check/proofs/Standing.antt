@@ -14,7 +14,8 @@ use Rattle.slow_kernel.proofs.Firsts.{first_some_more}
 use Rattle.replay_check.specs.declared.verdicts.Verdict.{Verdict}
 use Rattle.replay_check.specs.declared.verdicts.Verdict.TheVariants.{Legal, WrongReply, WrongCall, Missing}
 use Rattle.replay_check.specs.Same.{same_call, same_reply}
-use Rattle.replay_check.specs.Verdicts.{of_thread, is_call_at, is_next, reply_due, entry_fault, first_fault, has_more, unspent, verdict_of}
+use Rattle.replay_check.specs.Verdicts.{is_call_at, is_next, reply_due, entry_fault, first_fault, has_more, unspent, verdict_of}
+use Rattle.kernel_model.specs.Whole.{of_thread}
 use Rattle.replay_check.specs.Replays.{ReplayView, StandsFor, first_unspent}
 use Rattle.replay_check.proofs.Sames.{same_reply-true}
 use Rattle.replay_check.proofs.Faults.{first_some-alike, first_fault-push, entry_fault-call, entry_fault-reply, entry_fault-right}

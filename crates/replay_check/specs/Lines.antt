@@ -6,7 +6,7 @@ use Rattle.kern_ids.specs.declared.entries.Entry.{Entry}
 use Rattle.kernel_model.specs.Scenario.{Plan}
 use Rattle.line_text.specs.Cut.{line_of}
 use Rattle.line_text.specs.Calls.{call_words}
-use Rattle.history_reading.specs.Entries.{IsLineOf}
+use Rattle.history_text.specs.EntryReading.{IsLineOf}
 use Rattle.replay_check.specs.declared.line_replay.LineReplay.{LineReplay}
 use Rattle.replay_check.specs.declared.line_replay.LineReplay.TheVariants.{Right, Wrong, Unread}
 use Rattle.replay_check.specs.Verdicts.{is_call_at}
@@ -25,7 +25,7 @@ pub record IsNextCall (s : Plan) (made : List ℕ) (who : ℕ) (call : Call) : T
 abbrev pub BeginsWithNumber : List ℕ → Type 0
 BeginsWithNumber line = (n : ℕ) × (rest : List ℕ) × (n < 2 ^ 64) × (line ≡ decimal n ++ 32 ∷ rest)
 
--- it is the line of no entry whose call is the next of its thread's script; behind a fault it may be any line
+-- it is the line of no entry whose call is the next of its thread's script; after a fault it may be any line
 abbrev pub IsNotDue : Plan → List ℕ → ReplayView → Type 0
 IsNotDue s line r = (e : Entry) → r.fault ≡ None → IsLineOf line e → IsNextCall s r.made e.who e.call → ⊥
 

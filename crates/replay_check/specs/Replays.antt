@@ -6,7 +6,8 @@ use Rattle.kernel_model.specs.System.{System}
 use Rattle.kernel_model.specs.Lists.{first_some, some_if}
 use Rattle.kernel_model.specs.Scenario.{Plan}
 use Rattle.replay_check.specs.declared.verdicts.Verdict.{Verdict}
-use Rattle.replay_check.specs.Verdicts.{of_thread, first_fault, has_more}
+use Rattle.replay_check.specs.Verdicts.{first_fault, has_more}
+use Rattle.kernel_model.specs.Whole.{of_thread}
 
 -- the boot and the entries of its kernel, how many calls each thread has made, and what was wrong at the first wrong place
 pub record ReplayView : Type 0 where

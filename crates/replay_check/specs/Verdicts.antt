@@ -1,5 +1,5 @@
 -- The verdict on a history of a scenario.
-use Rattle.std.specs.Prelude.{◌≡◌, ℕ, ◌<◌, List, ◌++◌, length, map, filter, take, reverse, Bool, true, false, ◌&&◌, Option, Some, None, nat_eq, nat_lt, slice_get}
+use Rattle.std.specs.Prelude.{◌≡◌, ℕ, ◌<◌, List, ◌++◌, length, take, reverse, Bool, true, false, ◌&&◌, Option, Some, None, nat_lt, slice_get}
 use Rattle.std.specs.Option.{option_map_or, option_and_then, unwrap_or}
 use Rattle.std.specs.List.{range_with_len, AllByRecursion}
 use Rattle.kern_ids.specs.declared.entries.Entry.{Entry}
@@ -9,27 +9,20 @@ use Rattle.kernel_model.specs.Answers.{answer}
 use Rattle.kernel_model.specs.Histories as histories
 use Rattle.kernel_model.specs.Lists.{first_some, some_if}
 use Rattle.kernel_model.specs.Scenario.{Plan, script}
+use Rattle.kernel_model.specs.Whole.{calls_of, of_thread}
 use Rattle.replay_check.specs.declared.verdicts.Verdict.{Verdict}
 use Rattle.replay_check.specs.declared.verdicts.Verdict.TheVariants.{Legal, WrongReply, WrongCall, Missing}
 use Rattle.replay_check.specs.Same.{same_call, same_reply}
-
--- the entries of thread n
-abbrev pub of_thread : ℕ → List Entry → List Entry
-of_thread n es = filter (λ e. nat_eq e.who n) es
-
--- the calls of some entries
-abbrev pub calls_of : List Entry → List Call
-calls_of es = map (λ e. e.call) es
 
 -- thread n is declared, and call k of its script is this one
 unfoldable pub is_call_at : Plan → ℕ → Call → ℕ → Bool
 is_call_at s n call k = nat_lt n (length s.scripts) && option_map_or (same_call call) (slice_get (script s n) k) false
 
--- the thread of an entry behind these is declared, and its call is the next of its script
+-- the thread of an entry after these is declared, and its call is the next of its script
 abbrev pub is_next : Plan → List Entry → Entry → Bool
 is_next s before e = is_call_at s e.who e.call (length (of_thread e.who before))
 
--- what the kernel answers to the call of an entry behind these
+-- what the kernel answers to the call of an entry after these
 abbrev pub reply_due : Plan → List Entry → Entry → Reply
 reply_due s before e = answer s.boot (reverse before) e.who e.call
 
@@ -39,7 +32,7 @@ judged false reply_right place due = Some (WrongCall place)
 judged true false place due = Some (WrongReply place due)
 judged true true place due = None
 
--- what is wrong with an entry behind these
+-- what is wrong with an entry after these
 unfoldable pub entry_fault : Plan → List Entry → Entry → Option Verdict
 entry_fault s before e = judged (is_next s before e) (same_reply e.reply (reply_due s before e)) (length before) (reply_due s before e)
 
@@ -62,11 +55,6 @@ unspent s h = first_some (λ n. some_if (has_more s n (length (of_thread n h))) 
 -- what is wrong at the first wrong place; where no place is wrong, the least thread whose script isn't spent
 unfoldable pub verdict_of : Plan → List Entry → Verdict
 verdict_of s h = unwrap_or (first_fault s h) (option_map_or Missing (unspent s h) Legal)
-
--- each thread of the history is declared, and its calls are its script: each once, and in order
-pub record IsWhole (s : Plan) (h : List Entry) : Type 0 where
-  pub declared : AllByRecursion (λ e. e.who < length s.scripts) h
-  pub scripts : (n : ℕ) → n < length s.scripts → calls_of (of_thread n h) ≡ script s n
 
 -- the script begins with these calls
 abbrev pub AreFirst : List Call → List Call → Type 0

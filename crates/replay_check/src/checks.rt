@@ -3,7 +3,8 @@
 ghost use Rattle.std.specs.Prelude.{◌≡◌, ◌<◌, ◌^◌, length, IfOk};
 ghost use Rattle.kernel_model.specs.Histories as histories;
 ghost use Rattle.replay_check.specs.Replays.{StandsFor};
-ghost use Rattle.replay_check.specs.Verdicts.{verdict_of, IsWhole};
+ghost use Rattle.replay_check.specs.Verdicts.{verdict_of};
+ghost use Rattle.kernel_model.specs.Whole.{IsWhole};
 
 use crate::replays::Replay;
 use crate::verdicts::Verdict;

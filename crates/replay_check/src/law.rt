@@ -7,7 +7,8 @@ ghost use Rattle.kern_ids.specs.declared.replies.Reply.{Reply};
 ghost use Rattle.kernel_model.specs.Histories as histories;
 ghost use Rattle.kernel_model.specs.Scenario.{IsValid, Plan};
 ghost use Rattle.replay_check.specs.Same.{same_call, same_reply};
-ghost use Rattle.replay_check.specs.Verdicts.{IsFaultAt, IsFirstUnspent, IsFirstWrong, IsWhole, verdict_of};
+ghost use Rattle.replay_check.specs.Verdicts.{IsFaultAt, IsFirstUnspent, IsFirstWrong, verdict_of};
+ghost use Rattle.kernel_model.specs.Whole.{IsWhole};
 ghost use Rattle.replay_check.specs.declared.verdicts.Verdict.{Verdict};
 ghost use Rattle.replay_check.specs.declared.verdicts.Verdict.TheVariants.{Legal, Missing};
 

@@ -5,10 +5,10 @@ ghost use Rattle.std.specs.Fmt.{decimal};
 ghost use Rattle.kern_ids.specs.declared.calls.Call.{Call as ACall};
 ghost use Rattle.line_text.specs.Cut.{Word, words_of};
 ghost use Rattle.line_text.specs.Calls.{HasLine};
-ghost use Rattle.history_reading.specs.Replies.{HasReply};
+ghost use Rattle.history_text.specs.ReplyReading.{HasReply};
 ghost use Rattle.replay_check.specs.Lines.{IsNextCall, front_text};
 
-use history_reading::law::{call_has_line, reply_has_words};
+use history_text::law::{call_has_line, reply_has_words};
 use kern_ids::calls::Call;
 use kern_ids::ids::ThreadId;
 use kern_ids::lines::LineBuf;

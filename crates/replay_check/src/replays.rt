@@ -19,16 +19,17 @@ use kern_ids::entries::{Entry, NoMemory};
 use kern_ids::ids::ThreadId;
 use kern_ids::lines::LineBuf;
 use kern_ids::replies::Reply;
+use kernel_core::ghost_log::GhostLog;
+use kernel_core::one_thread::OneThread;
 use kernel_model::scenario::Scenario;
-use replay_kernel::kernel::ReplayKernel;
 use std::alloc::Global;
 use std::marker::Model;
 
-/// What the entries so far have come to: the kernel behind them, and what was wrong at the first wrong place. From
-/// there on the calls are made no more.
+/// What the entries so far have come to: the kernel that made their calls, and what was wrong at the first
+/// wrong place. From there on the calls are made no more.
 #[derive(Drop)]
 pub struct Replay {
-    kernel: ReplayKernel,
+    kernel: OneThread<GhostLog>,
     /// How many calls each thread has made.
     made: [usize; 32],
     fault: Option<Verdict>,
@@ -92,7 +93,7 @@ impl Replay {
         ensures { IfOk result (StandsFor scenario.now []) }
     {
         Ok(Replay {
-            kernel: ReplayKernel::boot(alloc, scenario.boot())?,
+            kernel: OneThread::boot(alloc, scenario.boot(), GhostLog::new())?,
             made: [0; 32],
             fault: None,
         })
@@ -123,8 +124,8 @@ impl Replay {
         Ok(())
     }
 
-    // Makes the next call of a thread, whose text the line begins with, and compares what stands behind it with the text
-    // of the reply.
+    // Makes the next call of a thread, whose text the line begins with, and compares what comes after it with
+    // the text of the reply.
     fn answer_line(
         &mut self,
         scenario: &Scenario,
@@ -156,8 +157,9 @@ impl Replay {
         Ok(LineReplay::Wrong)
     }
 
-    /// Takes the entry whose line this is, without its line feed, and reads no entry: the line of the entry that is due is
-    /// put together in `text`, whatever that held, and compared with it. Without memory it has taken nothing.
+    /// Takes the entry whose line this is, without its line feed, and reads no entry: the line of the
+    /// expected entry is put together in `text`, whatever that held, and compared with it. Without memory it
+    /// has taken nothing.
     pub fn feed_line(
         &mut self,
         scenario: &Scenario,
@@ -190,9 +192,9 @@ impl Replay {
         self.answer_line(scenario, who, &call, text, line)
     }
 
-    /// The kernel that made the calls of the entries so far, up to the first wrong place. Where only the reply is wrong
-    /// there, it has made that place's call as well.
-    pub fn kernel(&self) -> &ReplayKernel
+    /// The kernel that made the calls of the entries so far, up to the first wrong place. Where only the
+    /// reply is wrong there, it has made that place's call as well.
+    pub fn kernel(&self) -> &OneThread<GhostLog>
         ensures boot { result.now.boot ≡ self.now.boot }
         ensures history { result.now.history ≡ self.now.history }
     {

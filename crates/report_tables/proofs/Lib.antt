@@ -3,3 +3,6 @@ pub mod LineLaws
 pub mod JsonLaws
 pub mod Emptied
 pub mod Explained
+pub mod Fronts
+pub mod Statuses
+pub mod Written

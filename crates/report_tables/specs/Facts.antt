@@ -1,4 +1,4 @@
--- What stands after a history.
+-- The state after a history.
 use Rattle.std.specs.Prelude.{ℕ, List, length, map, slice_get, slice_index_or}
 use Rattle.std.specs.Option.{option_map_or}
 use Rattle.kern_ids.specs.declared.entries.Entry.{Entry}
@@ -19,7 +19,7 @@ use Rattle.kernel_tables.specs.Values.{TableValues}
 use Rattle.report_tables.specs.declared.rows.TaskFacts.{TaskFacts}
 use Rattle.report_tables.specs.declared.rows.ObjectFacts.{ObjectFacts}
 
--- the number of entries, of purges and of kills, the tasks and the objects by their numbers, and what Info and Purgeables tell
+-- the number of entries, of purges and of kills, the tasks and the objects by their numbers, and what Info and Purgeables answer
 pub record Report : Type 0 where
   pub entries : ℕ
   pub purged : ℕ
@@ -55,7 +55,7 @@ tokens_in _ = record { obsolete = no_tokens; lifo = no_tokens; fifo = no_tokens 
 unfoldable pub Tell : TableValues → List Entry → Type 0
 Tell tables past = Stands tables past
 
--- what stands after these entries, newest first
+-- the state after these entries, newest first
 unfoldable pub facts_of : System → List Entry → Report
 facts_of boot past = record {
   entries = length past;

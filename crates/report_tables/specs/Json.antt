@@ -1,4 +1,4 @@
--- What stands after a history, as a JSON value.
+-- The state after a history, as a JSON value.
 use Rattle.std.specs.Prelude.{ℕ, List, [], ◌∷◌, map, codes, Option, Some, None}
 use Rattle.kern_ids.specs.declared.replies.FrameCounts.{FrameCounts}
 use Rattle.kern_ids.specs.declared.replies.TokenCounts.{TokenCounts}
@@ -36,11 +36,11 @@ held_data (Some m) = list_data (string (state_word m.state) ∷ number_data m.ac
 unfoldable pub object_data : ObjectFacts → Data
 object_data o = held_data o.held
 
--- what Info tells
+-- what Info answers
 unfoldable pub frames_data : FrameCounts → Data
 frames_data f = list_data (number_data f.free ∷ number_data f.active ∷ number_data f.inactive ∷ number_data f.stored ∷ number_data f.entered ∷ number_data f.left ∷ [])
 
--- what Purgeables tells
+-- what Purgeables answers
 unfoldable pub tokens_data : TokenCounts → Data
 tokens_data t =
     list_data

@@ -3,3 +3,4 @@ pub mod Facts
 pub mod Table
 pub mod Json
 pub mod Reasons
+pub mod Reports

@@ -1,4 +1,4 @@
--- The table of what stands after a history, and its lines.
+-- The table of the state after a history, and its lines.
 use Rattle.std.specs.Prelude.{ℕ, List, [], ◌∷◌, ◌++◌, map, codes, Bool, Option, Some, None, if◌then◌else◌}
 use Rattle.std.specs.Fmt.{decimal}
 use Rattle.kern_ids.specs.declared.replies.Reply.TheVariants.{Pages, Frames, Tokens}
@@ -37,7 +37,7 @@ held_words (Some m) = state_word m.state ∷ decimal m.active ∷ decimal m.inac
 unfoldable pub object_words : ObjectFacts → List Word
 object_words o = codes "object" ∷ decimal o.object ∷ codes "task" ∷ decimal o.first ∷ held_words o.held
 
--- all lines: the counts, the tasks, the objects, and what Info and Purgeables tell
+-- all lines: the counts, the tasks, the objects, and what Info and Purgeables answer
 unfoldable pub table_text : Report → List ℕ
 table_text f =
     line_text (head_words f.entries f.purged f.killed) ++ text_of (map task_words f.tasks) ++ text_of (map object_words f.objects)

@@ -1,4 +1,4 @@
-//! What stands after a history, as the tables of a kernel tell it.
+//! The state after a history, from the tables of a kernel.
 
 ghost use Rattle.std.specs.Prelude.{◌≡◌, ◌<◌, List, length, reverse, map, IfOk};
 ghost use Rattle.kern_ids.specs.declared.entries.Entry.{Entry as AnEntry};
@@ -22,8 +22,8 @@ use slow_kernel::mapping::task_id;
 use std::alloc::Global;
 use std::marker::Model;
 
-/// What stands after a history: how many entries it has, how many replies purge and kill, each task and
-/// each object by its number, and the numbers that Info and Purgeables tell.
+/// The state after a history: how many entries it has, how many replies purge and kill, each task and
+/// each object by its number, and the numbers that Info and Purgeables answer.
 #[derive(Drop)]
 pub struct Facts {
     pub entries: usize,
@@ -141,7 +141,7 @@ fn token_counts(tables: &Tables, _entries: &[Entry]) -> TokenCounts
     tables.token_counts()
 }
 
-// What stands after these entries, as the tables tell it.
+// The state after these entries, from the tables.
 fn told_facts(
     alloc: Global,
     boot: &Boot,
@@ -166,7 +166,7 @@ fn told_facts(
 }
 
 impl Facts {
-    /// What stands after a history, by tables that stand for it. The tables are asked, and the entries are only counted.
+    /// The state after a history, from its tables. The tables are asked, and the entries are only counted.
     pub fn of_tables(
         alloc: Global,
         boot: &Boot,
@@ -180,11 +180,15 @@ impl Facts {
         told_facts(alloc, boot, tables, history.as_slice())
     }
 
-    /// What stands after the kernel's history.
-    pub fn of_kernel(alloc: Global, boot: &Boot, kernel: &Kernel) -> Result<Facts, NoMemory>
+    /// The state after the kernel's history.
+    pub fn of_kernel(
+        alloc: Global,
+        boot: &Boot,
+        kernel: &Kernel<EntryList>,
+    ) -> Result<Facts, NoMemory>
         requires { kernel.now.boot ≡ boot.now }
         ensures { IfOk result (λ f. f ≡ spec.facts_of boot.now (reverse kernel.now.history)) }
     {
-        Facts::of_tables(alloc, boot, kernel.tables(), kernel.history())
+        Facts::of_tables(alloc, boot, kernel.tables(), kernel.log())
     }
 }

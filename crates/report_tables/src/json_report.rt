@@ -1,4 +1,4 @@
-//! What stands after a history, as a line of JSON.
+//! The state after a history, as a line of JSON.
 
 ghost use Rattle.std.specs.Prelude.{◌≡◌, ◌++◌, ◌∷◌, [], map, IfOk, Some, None};
 ghost use Rattle.serde_json.specs.View.{view};
@@ -155,7 +155,7 @@ fn facts_text(alloc: Global, facts: &Facts) -> Result<Vec<u8>, AllocError>
     value.to_vec(alloc)
 }
 
-/// What stands after a history as one JSON object in a line of its own, with no space and with its keys
+/// The state after a history as one JSON object in a line of its own, with no space and with its keys
 /// in rising order.
 pub fn json_text(alloc: Global, facts: &Facts) -> Result<Vec<u8>, NoMemory>
     ensures { IfOk result (λ t. t.items ≡ compact_text (spec.facts_data facts.now) ++ 10 ∷ []) }

@@ -1,7 +1,7 @@
 use kern_ids::calls::Queue;
 use kern_ids::replies::Cause;
 
-/// Why an entry was answered as it was, by what stood before it.
+/// Why an entry was answered as it was, by what came before it.
 #[derive(Clone, Copy)]
 pub enum Reason {
     /// The queue of the ripe token, its first deadline, how many pages had left, and the object that was

@@ -1,14 +1,13 @@
 use kernel_tables::standing::{LiveTask, MappedObject};
 
-/// The number of a task, and what stands of it if it lives.
+/// The number of a task, and its state if it lives.
 #[derive(Clone, Copy)]
 pub struct TaskFacts {
     pub task: u32,
     pub life: Option<LiveTask>,
 }
 
-/// The number of an object, the first task that was declared for it, and what stands of it if it is
-/// mapped.
+/// The number of an object, the first task that was declared for it, and its state if it is mapped.
 #[derive(Clone, Copy)]
 pub struct ObjectFacts {
     pub object: u32,

@@ -1,4 +1,4 @@
-//! The table of what stands after a history.
+//! The table of the state after a history.
 
 ghost use Rattle.std.specs.Prelude.{◌≡◌, ◌≤◌, ◌+◌, ◌++◌, length, map, IfOk, OnOk, Some};
 ghost use Rattle.line_text.specs.Cut.{spaced, text_of};
@@ -26,7 +26,7 @@ fn head_line(entries: usize, purged: usize, killed: usize) -> LineBuf
     line
 }
 
-// Appends what stands of a live task.
+// Appends the state of a live task.
 fn push_live(line: &mut LineBuf, live: &LiveTask)
     requires { length line.old ≤ 100 }
     ensures bytes { line.new ≡ line.old ++ spaced (life_words (Some live.now)) }
@@ -37,7 +37,7 @@ fn push_live(line: &mut LineBuf, live: &LiveTask)
     push_spaced_reply(line, &Reply::Pages(live.counts));
 }
 
-// Appends what stands of a task.
+// Appends the state of a task.
 fn push_life(line: &mut LineBuf, life: &Option<LiveTask>)
     requires { length line.old ≤ 100 }
     ensures bytes { line.new ≡ line.old ++ spaced (life_words life.now) }
@@ -60,7 +60,7 @@ fn task_line(task: &TaskFacts) -> LineBuf
     line
 }
 
-// Appends what stands of a mapped object.
+// Appends the state of a mapped object.
 fn push_mapped(line: &mut LineBuf, object: &MappedObject)
     requires { length line.old ≤ 100 }
     ensures bytes { line.new ≡ line.old ++ spaced (held_words (Some object.now)) }
@@ -72,7 +72,7 @@ fn push_mapped(line: &mut LineBuf, object: &MappedObject)
     push_field(line, b" ", u64::from(object.stored));
 }
 
-// Appends what stands of an object.
+// Appends the state of an object.
 fn push_held(line: &mut LineBuf, held: &Option<MappedObject>)
     requires { length line.old ≤ 100 }
     ensures bytes { line.new ≡ line.old ++ spaced (held_words held.now) }
@@ -116,8 +116,8 @@ fn add_objects(out: &mut Vec<u8>, objects: &[ObjectFacts]) -> Result<(), NoMemor
     Ok(())
 }
 
-/// What stands after a history as lines of text: the numbers of entries, purges and kills, each task,
-/// each object, and what Info and Purgeables tell.
+/// The state after a history as lines of text: the numbers of entries, purges and kills, each task,
+/// each object, and what Info and Purgeables answer.
 #[tactic(auto, unfolding(crate::specs::Table::table_text))]
 pub fn table_text(alloc: Global, facts: &Facts) -> Result<Vec<u8>, NoMemory>
     ensures { IfOk result (λ t. t.items ≡ table_text facts.now) }

@@ -146,7 +146,7 @@ fn entry_why(
 }
 
 /// An entry of a history and, for a purge, a kill and an answer that an object is EMPTY, why it was
-/// answered so, by what stood before it. None where there is no such entry. Entries are numbered from 0.
+/// answered so, by what came before it. None where there is no such entry. Entries are numbered from 0.
 #[tactic(auto, using(std::proofs::lemmas::Option::slice_get_within))]
 pub fn why_text(
     alloc: Global,

@@ -1,5 +1,6 @@
 -- The tokens of the three queues, seen by their dues.
-use Rattle.std.specs.Prelude.{ℕ, ◌-◌, List, [], ◌∷◌, length, take, drop, if◌then◌else◌}
+use Rattle.std.specs.Prelude.{ℕ, ◌≤◌, ◌-◌, All, List, [], ◌∷◌, length, take, drop, if◌then◌else◌}
+use Rattle.std.specs.List.Sorted.{IsNonDecreasing}
 use Rattle.kern_ids.specs.declared.calls.Queue.{Queue}
 use Rattle.kern_ids.specs.declared.calls.Queue.TheVariants.{Obsolete, Lifo, Fifo}
 use Rattle.token_list.specs.Dues.{begins_ripe, put_due}
@@ -15,6 +16,12 @@ abbrev pub dues_in : QueueDues → Queue → List ℕ
 dues_in d Obsolete = d.obsolete
 dues_in d Lifo = d.lifo
 dues_in d Fifo = d.fifo
+
+-- dues that a queue can have: they rise, none is above the pages ahead, and there are at most 256
+pub record AreDues (dues : List ℕ) (ahead : ℕ) : Type 0 where
+  pub rising : IsNonDecreasing dues
+  pub within : All (λ d. d ≤ ahead) dues
+  pub size : length dues ≤ 256
 
 -- with other dues for one queue
 abbrev pub with_dues : QueueDues → Queue → List ℕ → QueueDues

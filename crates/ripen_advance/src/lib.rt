@@ -1,10 +1,10 @@
-//! The ripening tokens of the three queues: each is told of every page that enters and leaves the
+//! The ripening tokens of the three queues: each learns of every page that enters and leaves the
 //! inactive queue, and what a ripe purge takes is taken here.
 #![tactic(auto)]
 
 ghost use Rattle.std.specs.Prelude.{◌≡◌, ◌≤◌, ◌<◌, ◌+◌, ◌-◌, ◌^◌, ◌∷◌, ◌++◌, [], length, drop, slice_get, IfOk, true};
 ghost use Rattle.token_list.specs.Dues.{lowered_by, begins_ripe, counts_of};
-ghost use Rattle.ripen_advance.specs.Queues.{dues_in, with_dues, new_due, all_but_last, first_into, CanServe, after_ripe};
+ghost use Rattle.ripen_advance.specs.Queues.{dues_in, with_dues, new_due, all_but_last, first_into, AreDues, CanServe, after_ripe};
 
 use kern_ids::calls::Queue;
 use kern_ids::entries::NoMemory;
@@ -132,6 +132,7 @@ impl TokenQueues {
         ensures obsolete { result.obsolete ≡ counts_of self.now.obsolete }
         ensures lifo { result.lifo ≡ counts_of self.now.lifo }
         ensures fifo { result.fifo ≡ counts_of self.now.fifo }
+        ensures dues { (q : Queue) → AreDues (dues_in self.now q) self.now.ahead }
     {
         TokenCounts {
             obsolete: self.obsolete.counts(),
@@ -140,12 +141,12 @@ impl TokenQueues {
         }
     }
 
-    /// Takes the token for the purge of an object that stood in `object_queue`, chosen for the ripe
+    /// Takes the token for the purge of an object that was in `object_queue`, chosen for the ripe
     /// first token of `token_queue`.
     ///
     /// It is the first token of the object's own queue where that one is ripe. Otherwise the token
     /// queue's first goes, and the first of the object's queue takes its place among those of the token
-    /// queue, behind all whose dues aren't greater.
+    /// queue, after all whose dues aren't greater.
     pub fn take_ripe(&mut self, token_queue: Queue, object_queue: Queue)
         requires ripe { begins_ripe (dues_in self.old token_queue) ≡ true }
         requires object { 0 < length (dues_in self.old object_queue) }
@@ -177,29 +178,4 @@ fn move_first(to: &mut TokenList, from: &mut TokenList)
     let _gone = to.drop_first();
     let due = from.drop_first();
     to.insert(due);
-}
-
-#[cfg(test)]
-mod tests {
-    use super::*;
-    use std::test::Fail;
-
-    /// Objects of LIFO are added with 0 and 2 pages ahead, one of FIFO with 3; it is purged for the
-    /// ripe token of LIFO, so its token moves there.
-    #[test]
-    fn a_token_moves_to_the_ripe_queue(rt: HostRuntime) -> Result<(), Fail> {
-        let mut queues = TokenQueues::new(rt.alloc())?;
-        queues.add(Queue::Lifo);
-        queues.entered(2);
-        queues.add(Queue::Lifo);
-        queues.entered(1);
-        queues.add(Queue::Fifo);
-        queues.take_ripe(Queue::Lifo, Queue::Fifo);
-        assert_eq!(rt; queues.count_at(Queue::Lifo, 0), Some(2));
-        assert_eq!(rt; queues.count_at(Queue::Lifo, 1), Some(3));
-        assert_eq!(rt; queues.count_at(Queue::Fifo, 0), None);
-        queues.departed(2);
-        assert!(rt; queues.ripe(Queue::Lifo));
-        Ok(())
-    }
 }

@@ -1,6 +1,9 @@
-//! A gate that holds the calls of two threads by rules, and the tests of runs by threads.
+//! Gates that hold the calls of two threads, and the tests of runs by threads.
 #![tactic(auto)]
 
+pub mod baton;
+#[cfg(test)]
+mod every_order;
 #[cfg(test)]
 mod own_threads;
 pub mod schedule;

@@ -59,25 +59,36 @@ fn run_all<R: Threads + Wait + Abort + Sync, G: Gate + Sync>(
     }
 }
 
-// The history of a kernel with two passes.
-fn closed<R: Abort>(rt: &R, kernel: SharedKernel, passes: Vec<Pass>) -> Result<EntryList, NoMemory>
+/// The history of a kernel with two passes.
+pub fn closed<R: Abort>(rt: &R, kernel: SharedKernel, first: Pass, second: Pass) -> EntryList
     requires two { kernel.passes ≡ 2 }
-    requires idle { All (IsIdleOf kernel) passes.items }
+    requires first { IsIdleOf kernel first }
+    requires second { IsIdleOf kernel second }
 {
-    let mut passes = passes;
-    let Some(other) = passes.pop() else {
-        return Err(NoMemory);
-    };
-    let Some(mut pass) = passes.pop() else {
-        return Err(NoMemory);
-    };
-    kernel.join(&mut pass, other);
+    let mut pass = first;
+    kernel.join(&mut pass, second);
     assert!(rt; pass.weight() == 2);
-    Ok(kernel.close(pass))
+    kernel.close(pass)
 }
 
-// The two passes of a kernel.
-fn two_passes(alloc: Global, first: Pass, second: Pass) -> Result<Vec<Pass>, NoMemory>
+/// The two passes of a list.
+pub fn both_of(kernel: &SharedKernel, passes: Vec<Pass>) -> Result<(Pass, Pass), NoMemory>
+    requires idle { All (IsIdleOf kernel.now) passes.items }
+    ensures first { IfOk result (λ both. IsIdleOf kernel.now both.0) }
+    ensures second { IfOk result (λ both. IsIdleOf kernel.now both.1) }
+{
+    let mut passes = passes;
+    let Some(second) = passes.pop() else {
+        return Err(NoMemory);
+    };
+    let Some(first) = passes.pop() else {
+        return Err(NoMemory);
+    };
+    Ok((first, second))
+}
+
+/// The two passes of a kernel.
+pub fn two_passes(alloc: Global, first: Pass, second: Pass) -> Result<Vec<Pass>, NoMemory>
     ensures { IfOk result (λ v. v.items ≡ first ∷ second ∷ []) }
 {
     let mut passes = Vec::new(alloc);
@@ -104,7 +115,8 @@ fn run_both<R: Threads + Wait + Abort + Sync>(
     };
     let passes = two_passes(alloc, first, second)?;
     let passes = run_all(rt, schedule, &kernel, passes, s)?;
-    Ok(closed(rt, kernel, passes)?)
+    let (first, second) = both_of(&kernel, passes)?;
+    Ok(closed(rt, kernel, first, second))
 }
 
 // Both threads hold their object's word at one time.

@@ -2,6 +2,7 @@ ghost use Rattle.std.specs.Prelude.{◌≡◌};
 ghost use Rattle.kernel_shared.specs.Calls.{IsIdleOf};
 
 use crate::schedule::{Hold, Moment, Schedule};
+use commands::jetlab_top;
 use edge::memory_sink::MemSink;
 use edge::memory_source::MemSource;
 use edge::words::Words;
@@ -12,9 +13,8 @@ use kern_ids::lines::ByteLine;
 use kern_ids::replies::Reply;
 use kernel_model::boot::Boot;
 use kernel_model::scenario::Scenario;
-use kernel_shared::gate::{NoGate, Point};
+use kernel_shared::gate::{Gate, NoGate, Point};
 use kernel_shared::shared::{Pass, SharedKernel};
-use run_command::jetlab_top;
 use scenario_text::read_scenario;
 use std::alloc::Global;
 use std::process::Abort;
@@ -157,8 +157,9 @@ struct Step {
 }
 
 // Makes a call that fits.
-fn made<R: Wait + Abort>(
+pub fn made<R: Wait + Abort, G: Gate>(
     rt: &R,
+    gate: &G,
     kernel: &SharedKernel,
     boot: &Boot,
     pass: &mut Pass,
@@ -170,7 +171,7 @@ fn made<R: Wait + Abort>(
 {
     let who = ThreadId::new(pass.number()).expect(rt, "a thread");
     assert!(rt; boot.fits(who, call));
-    kernel.call(rt, &NoGate, pass, *call)
+    kernel.call(rt, gate, pass, *call)
 }
 
 // Makes the calls, each with its pass.
@@ -188,9 +189,9 @@ fn play<R: Wait + Abort>(
 {
     for step in steps {
         let reply = if step.scans {
-            made(rt, kernel, boot, scanner, &step.call)?
+            made(rt, &NoGate, kernel, boot, scanner, &step.call)?
         } else {
-            made(rt, kernel, boot, owner, &step.call)?
+            made(rt, &NoGate, kernel, boot, owner, &step.call)?
         };
         assert!(rt; reply == step.reply);
     }

@@ -6,7 +6,5 @@ mod draws;
 mod head;
 pub mod law;
 mod made;
-#[cfg(test)]
-mod tests;
 
 pub use made::make_scenario;

@@ -3,15 +3,16 @@ use Rattle.std.proofs.Common.{◌≡◌, ℕ, ◌+◌, ◌<◌, ◌≤◌, IsTru
 use Rattle.std.specs.Prelude.{is_some, option_and_then}
 use Rattle.std.proofs.lemmas.Bool.{and_from, lt-ltb}
 use Rattle.std.proofs.lemmas.List.{length-append}
-use Rattle.std.proofs.lemmas.List.Elements.{All-nil, All-push, All-same, All-set, All-append}
+use Rattle.std.proofs.lemmas.List.Elements.{All-nil, All-push, All-same, All-set, All-append, All-from_recursion}
 use Rattle.kern_ids.specs.declared.calls.Call.{Call}
+use Rattle.kern_ids.specs.declared.calls.Call.TheVariants.{Map, Unmap, Write, Read, SetState, GetState, Active, Ledger, Exit, PurgeOne, Forced, Scan, Tick, Jetsam, SetBand, SetLimits, Info, Purgeables, Attach}
 use Rattle.kernel_model.specs.declared.boot.Params.{Params}
 use Rattle.kernel_model.specs.declared.boot.TaskBoot.{TaskBoot}
 use Rattle.kernel_model.specs.declared.boot.ObjBoot.{ObjBoot}
 use Rattle.kernel_model.specs.declared.boot.Side.{Side}
 use Rattle.kernel_model.specs.declared.boot.Side.TheVariants.{Kernel}
 use Rattle.kernel_model.specs.declared.scenario.Form.{Form}
-use Rattle.kernel_model.specs.Valid.{IsValidParams, IsValidTask, IsValidObject, IsValidSide}
+use Rattle.kernel_model.specs.Valid.{IsValidParams, IsValidTask, IsValidObject, IsValidSide, IsValidCall}
 use Rattle.kernel_model.specs.Scenario.{Plan, IsValid, IsValidForm, FitsForm, call_count, script}
 use Rattle.kernel_model.specs.Histories.{fits, same, is_task_call, names_fit}
 use Rattle.kernel_model.specs.Events.{task_of, task_of_side}
@@ -38,6 +39,28 @@ fits-line s who call valid last side line =
     (and_from (ltb who (length s.boot.sides)) (same (is_task_call call) (is_some (task_of s.boot who))) (lt-ltb _ _ within) (side-at s who call within ∙ side))
     (names-of s.boot call line)
 
+-- the numbers of a call that has a line are in their ranges
+line-valid : (tasks objects : ℕ) (call : Call) → HasLine tasks objects call → IsValidCall call
+line-valid tasks objects (Write o off bytes) h = let b = h.2 in (h.1, b.1, All-from_recursion (λ x. x < 256) bytes b.2)
+line-valid tasks objects (Read o off len) h = (h.1, h.2)
+line-valid tasks objects (SetState o word) h = h.1
+line-valid tasks objects (SetBand t band) h = h.1
+line-valid tasks objects (Map o) h = tt
+line-valid tasks objects (Attach o) h = tt
+line-valid tasks objects (Unmap o) h = tt
+line-valid tasks objects (GetState o) h = tt
+line-valid tasks objects (Active on) h = tt
+line-valid tasks objects Ledger h = tt
+line-valid tasks objects Exit h = tt
+line-valid tasks objects PurgeOne h = tt
+line-valid tasks objects Forced h = tt
+line-valid tasks objects Scan h = tt
+line-valid tasks objects Tick h = tt
+line-valid tasks objects Jetsam h = tt
+line-valid tasks objects (SetLimits t a i) h = tt
+line-valid tasks objects Info h = tt
+line-valid tasks objects Purgeables h = tt
+
 abbrev LineOf : Plan → Call → Type 0
 LineOf s call = HasLine (length s.boot.tasks) (length s.boot.objects) call
 
@@ -58,8 +81,10 @@ opened-holds form params f p = record {
     };
     form = f;
     tasks = All-nil (FitsForm form);
+    bands = All-nil (λ t. t.band ≤ 20);
     scripts = refl;
     calls = λ n l. absurd (omega arith);
+    ranges = All-nil (All IsValidCall);
     few_calls = omega arith;
     order = All-nil (λ n. n < 0);
     few_turns = omega arith;
@@ -85,8 +110,10 @@ task-holds s t h none room valid fits band =
         };
         form = v.form;
         tasks = All-push (FitsForm s.form) s.boot.tasks t v.tasks fits;
+        bands = All-push (λ t. t.band ≤ 20) s.boot.tasks t v.bands band;
         scripts = v.scripts;
         calls = λ n l. absurd (omega (arith, none_called, l));
+        ranges = v.ranges;
         few_calls = v.few_calls;
         order = v.order;
         few_turns = v.few_turns;
@@ -118,8 +145,10 @@ order-holds s ns h below few =
         boot = v.boot;
         form = v.form;
         tasks = v.tasks;
+        bands = v.bands;
         scripts = v.scripts;
         calls = v.calls;
+        ranges = v.ranges;
         few_calls = v.few_calls;
         order = All-append (λ n. n < length s.scripts) s.order ns v.order below';
         few_turns = few;
@@ -133,7 +162,7 @@ call-holds s call h last line side room =
     let who = last_thread s in
     let within : who < length s.scripts = omega (arith, last) in
     record {
-      valid = call_more s who call room (fits-line s who call h.valid last side line) within h.valid;
+      valid = call_more s who call (line-valid (length s.boot.tasks) (length s.boot.objects) call line) room (fits-line s who call h.valid last side line) within h.valid;
       bands = h.bands;
       calls = All-set (HaveLines s) s.scripts who (get_or s.scripts who [] ++ call ∷ []) (All-push (LineOf s) (get_or s.scripts who []) call (h.calls who [] within) line) h.calls;
     }

@@ -37,7 +37,7 @@ pub two-text : (s : Plan) → HasText s → HasText (two s)
 two-text s h =
     let v = h.valid in
     record {
-      valid = record { boot = v.boot; form = tt; tasks = λ k d l. tt; scripts = v.scripts; calls = v.calls; few_calls = v.few_calls; order = v.order; few_turns = v.few_turns };
+      valid = record { boot = v.boot; form = tt; tasks = λ k d l. tt; bands = v.bands; scripts = v.scripts; calls = v.calls; ranges = v.ranges; few_calls = v.few_calls; order = v.order; few_turns = v.few_turns };
       bands = h.bands;
       calls = h.calls;
     }

@@ -19,7 +19,7 @@ taken_of text (Err e) = Err e
 abbrev pub front_taken : List ℕ → Result Taken (ℕ × Why)
 front_taken text = taken_of text (front_of text)
 
--- what a reader answers; want of memory may come instead
+-- what a reader answers; or it is out of memory
 abbrev pub FrontGives : Result Taken ReadFault → Result Taken (ℕ × Why) → Type 0
 FrontGives (Ok r) said = said ≡ Ok r
 FrontGives (Err e) said = ReadFails e said

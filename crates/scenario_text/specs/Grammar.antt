@@ -66,7 +66,7 @@ abbrev pub last_word : Word → List Word → Result Bool Why
 last_word word [] = Ok false
 last_word word (w ∷ ws) = if bytes_eq w word then finished ws true else Err why.Word
 
--- a task line behind its first word
+-- a task line after its first word
 unfoldable pub task_line : Form → ℕ → List Word → Result TaskBoot Why
 task_line form next ws = do
   rest ← in_order next 63 ws
@@ -80,11 +80,11 @@ task_line form next ws = do
   internal ← last_word (codes "internal") ages.1
   Ok (record { band = band.0; active = active.0; inactive = inactive.0; internal = internal; delay = ages.0.0; ageing = ages.0.1 })
 
--- a task of an object and those behind it, where it is at least the bound
+-- a task of an object and those after it, where it is at least the bound
 abbrev pub sharer_from : ℕ → ℕ → Result (List ℕ × List Word) Why → Result (List ℕ × List Word) Why
 sharer_from bound n rest = if nat_lt n bound then Err why.Repeated else (rest >>= λ r. Ok (n ∷ r.0, r.1))
 
--- the tasks of an object behind the first one, each a declared one that is at least the bound, up to the word `pages`
+-- the tasks of an object after the first one, each a declared one that is at least the bound, up to the word `pages`
 unfoldable pub sharers : ℕ → ℕ → List Word → Result (List ℕ × List Word) Why
 sharers tasks bound [] = Err why.Word
 sharers tasks bound (w ∷ ws) =
@@ -92,7 +92,7 @@ sharers tasks bound (w ∷ ws) =
     else if is_plain w then (number_in 0 63 w >>= λ n. if nat_lt n tasks then sharer_from bound n (sharers tasks (n + 1) ws) else Err why.Unknown)
     else Err why.Word
 
--- an object line behind its first word
+-- an object line after its first word
 unfoldable pub object_line : ℕ → ℕ → List Word → Result ObjBoot Why
 object_line tasks next ws = do
   rest ← in_order next 255 ws
@@ -110,7 +110,7 @@ side_words tasks (w ∷ ws) =
     else if bytes_eq w (codes "kernel") then finished ws Kernel
     else Err why.Word
 
--- a thread line behind its first word
+-- a thread line after its first word
 unfoldable pub thread_line : ℕ → ℕ → List Word → Result Side Why
 thread_line next tasks ws = in_order next 31 ws >>= λ rest. side_words tasks rest
 
@@ -204,7 +204,7 @@ step start (w ∷ ws) = head_line w ws >>= λ first. Ok (headed first)
 step (headed first) (w ∷ ws) = system_line first w ws >>= λ said. Ok (reading place.Tasks (opened said.0 said.1))
 step (reading place s) (w ∷ ws) = line_at place s w ws
 
--- a scenario that was read, the lines behind it, and the number of the first of them
+-- a scenario that was read, the lines after it, and the number of the first of them
 pub record Read : Type 0 where
   pub plan : Plan
   pub behind : List (List ℕ)

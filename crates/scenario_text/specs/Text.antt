@@ -73,7 +73,7 @@ order_words order = codes "order" ∷ map decimal order
 abbrev pub last_lines : List ℕ → List (List Word)
 last_lines order = order_words order ∷ (codes "end" ∷ []) ∷ []
 
--- the lines behind those of the tasks
+-- the lines after those of the tasks
 abbrev pub later_lines : Plan → List (List Word)
 later_lines s = object_lines 0 s.boot.objects ++ (thread_lines 0 s.boot.sides s.scripts ++ last_lines s.order)
 

@@ -1,4 +1,4 @@
-//! The lines that declare something, each behind its first word.
+//! The lines that declare something, each after its first word.
 
 ghost use Rattle.std.specs.Prelude.{◌≡◌, ◌≤◌, ◌<◌, ◌+◌, ◌∷◌, [], ℕ, List, length, All, MatchResult, OnOk, IfOk, IfSome, Ok, Err};
 ghost use Rattle.kernel_model.specs.Valid.{IsValidParams, IsValidTask, IsValidObject, IsValidSide, IsDelay, IsRisingFrom};

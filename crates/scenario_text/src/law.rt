@@ -96,8 +96,8 @@ pub fn reading_undoes_writing()
     ensures second { (s : Plan) → HasText s → HasText (two s) }
 {}
 
-/// What is read at the front of some bytes is read there too where more bytes stand behind them, and a fault of an
-/// ended line is their fault too.
+/// What is read at the front of some bytes is read there too where more bytes come after them, and a fault of
+/// an ended line is their fault too.
 pub fn front_stays()
     ensures read { (bytes more : List ℕ) (front : Taken) → front_taken bytes ≡ Ok front → front_taken (bytes ++ more) ≡ Ok front }
     ensures fault { (bytes more : List ℕ) (line : ℕ) (why : Why) → why ≢ NoEnd → front_taken bytes ≡ Err (line, why) → front_taken (bytes ++ more) ≡ Err (line, why) }

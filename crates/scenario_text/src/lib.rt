@@ -1,5 +1,5 @@
 //! The text of a scenario, read and written. A scenario has exactly one text, and reading takes that text
-//! and no other: where it does not, it tells the first line that is wrong and why.
+//! and no other: where it does not, it answers the first line that is wrong and why.
 #![tactic(auto)]
 
 mod declarations;
@@ -9,8 +9,6 @@ mod pieces;
 mod place;
 mod scan;
 mod stage;
-#[cfg(test)]
-mod tests;
 mod writing;
 
 pub use pieces::ScenarioPieces;

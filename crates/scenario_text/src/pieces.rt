@@ -47,7 +47,7 @@ impl<'a> ScenarioPieces<'a> {
     }
 }
 
-// Each of these puts together the next piece, and gives what is left behind it.
+// Each of these puts together the next piece, and gives what is left after it.
 fn from_order<'a>(line: &mut LineBuf, order: &'a [ThreadId]) -> Stage<'a>
     requires { line.old ≡ [] }
     ensures left { text_left (Stage.Order order.entry) ≡ line.new ++ text_left result }

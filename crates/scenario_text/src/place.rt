@@ -1,4 +1,4 @@
-/// Where in a scenario a line ends, behind the first two.
+/// Where in a scenario a line ends, after the first two.
 #[derive(Clone, Copy, Debug, PartialEq, Eq)]
 pub enum Place {
     /// After the system line or a task.

@@ -195,7 +195,7 @@ fn end_line(scenario: &mut Scenario, word: &[u8], words: &mut Words<'_>) -> Resu
     Ok(Place::Ended)
 }
 
-// One line more, behind the first two.
+// One line more, after the first two.
 #[tactic(auto, unfolding(crate::specs::Grammar::line_at, crate::specs::Grammar::step))]
 fn take_line(
     alloc: Global,
@@ -247,7 +247,7 @@ fn take_system(alloc: Global, first: bool, line: &[u8]) -> Result<Scenario, Why>
     Ok(Scenario::new(alloc, form, params))
 }
 
-// A line of the text, and what is behind it.
+// A line of the text, and what comes after it.
 fn next_line(rest: &[u8], line: u32) -> Result<(&[u8], &[u8]), ReadFault>
     ensures value { MatchResult result (λ parts. lines_of rest.now ≡ parts.0.now ∷ lines_of parts.1.now) (λ e. (lines_of rest.now ≡ rest.now ∷ []) × (e ≡ ReadFault.Bad line Why.NoEnd)) }
     ensures shorter { IfOk result (λ parts. length parts.1.now < length rest.now) }
@@ -261,7 +261,7 @@ fn next_line(rest: &[u8], line: u32) -> Result<(&[u8], &[u8]), ReadFault>
     }
 }
 
-// The first two lines: a scenario with nothing declared, and what is behind them.
+// The first two lines: a scenario with nothing declared, and what comes after them.
 fn open(alloc: Global, text: &[u8]) -> Result<(Scenario, &[u8]), ReadFault>
     ensures value { MatchResult result
         (λ r. front_of text.now ≡ front_from (reading Place.Tasks r.0) 3 (lines_of r.1.now))
@@ -286,14 +286,14 @@ fn open(alloc: Global, text: &[u8]) -> Result<(Scenario, &[u8]), ReadFault>
     }
 }
 
-// Whether it is behind the end line.
+// Whether it is after the end line.
 fn is_ended(place: Place) -> bool
     ensures { result ≡ is_ended place }
 {
     matches!(place, Place::Ended)
 }
 
-// The scenario that a text begins with, what is behind it, and the number of the line there.
+// The scenario that a text begins with, what comes after it, and the number of the line there.
 fn scan(alloc: Global, text: &[u8]) -> Result<(Scenario, &[u8], u32), ReadFault>
     requires { length text.now < 2 ^ 31 }
     ensures { MatchResult result
@@ -359,9 +359,9 @@ pub fn read_scenario(alloc: Global, text: &[u8]) -> Result<Scenario, ReadFault>
     read_whole(alloc, text)
 }
 
-/// The scenario that a text begins with, and how many bytes and lines of the text it takes; or the text's first
-/// fault. Fewer than 2^31 bytes. A scenario is read exactly where the bytes
-/// begin with its text, unless memory runs out.
+/// The scenario that a text begins with, and how many bytes and lines of the text it takes; or the text's
+/// first fault. Fewer than 2^31 bytes. A scenario is read exactly where the bytes begin with its text, unless
+/// memory runs out.
 pub fn read_front(alloc: Global, text: &[u8]) -> Result<(Scenario, usize, u32), ReadFault>
     requires { length text.now < 2 ^ 31 }
     // Which scenario, how many bytes and lines, or which fault it is.

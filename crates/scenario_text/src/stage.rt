@@ -10,9 +10,9 @@ pub enum Stage<'a> {
     Head(&'a Scenario),
     /// From the system line on.
     System(&'a Scenario),
-    /// These tasks, and all behind the tasks.
+    /// These tasks, and all after the tasks.
     Tasks(&'a Scenario, &'a [TaskBoot], usize),
-    /// These objects, and all behind the objects.
+    /// These objects, and all after the objects.
     Objects(&'a Scenario, &'a [ObjBoot], usize),
     /// The threads of these sides and scripts, and the order.
     Threads(&'a [ThreadId], &'a [Side], &'a [Script], usize),

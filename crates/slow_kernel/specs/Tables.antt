@@ -95,7 +95,7 @@ abbrev pub moves_page_of : ℕ → Reply → Bool
 moves_page_of o (Moved move p) = nat_eq o p.obj
 moves_page_of o _ = false
 
--- the entry may tell of a page of o, which was in this state, and was unmapped by it or not
+-- the entry may say something of a page of o, which was in this state, and was unmapped by it or not
 unfoldable pub tells_pages : State → Bool → ℕ → Entry → Bool
 tells_pages state unmapped o e = empties_from state o e || unmapped || is_access o e.call || moves_page_of o e.reply
 

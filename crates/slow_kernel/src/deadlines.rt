@@ -70,7 +70,7 @@ fn first_greater(list: &[usize], deadline: usize) -> Option<usize>
     list.iter().position(|d| deadline < *d)
 }
 
-/// Where a deadline goes: behind all that aren't greater.
+/// Where a deadline goes: after all that aren't greater.
 fn place_for(list: &[usize], deadline: usize) -> usize
     ensures place { result ≡ position_or_len (λ d. nat_lt deadline d) list.now }
     ensures bound { result ≤ length list.now }

@@ -28,7 +28,7 @@ pub fn object_id(n: usize) -> ObjId
     }
 }
 
-/// Where o stands after one entry more, which has number n.
+/// Where o is after one entry more, which has number n.
 #[tactic(auto, unfolding(kernel_model::specs::Groups::next_standing))]
 fn next_standing(o: ObjId, n: usize, was: Standing, e: &Entry) -> Standing
     ensures { result ≡ spec.next_standing o n was e.now }
@@ -43,7 +43,7 @@ fn next_standing(o: ObjId, n: usize, was: Standing, e: &Entry) -> Standing
     }
 }
 
-/// Where o stands after these entries.
+/// Where o is after these entries.
 #[tactic(auto, using(crate::proofs::ObjectTables::standing_loop, crate::proofs::ObjectTables::standing_none))]
 pub fn standing(entries: &[Entry], o: ObjId) -> Standing
     ensures { result ≡ spec.standing (reverse entries.now) o }

@@ -155,7 +155,7 @@ fn is_access(o: ObjId, call: &Call) -> bool
     }
 }
 
-/// The entry may tell of a page of o.
+/// The entry may say something of a page of o.
 #[tactic(auto, unfolding(crate::specs::Tables::tells_pages))]
 fn tells_pages(state: State, unmapped: bool, o: ObjId, e: &Entry) -> bool
     ensures { result ≡ tables.tells_pages state unmapped o e.now }

@@ -116,7 +116,7 @@ pub struct TaskPass {
     pub active: bool,
     pub when_active: Limit,
     pub when_inactive: Limit,
-    /// It stands in its band by ageing.
+    /// It is in its band by ageing.
     pub aged: bool,
     /// The entry that placed it there, counted from 1, and its place among those that this entry placed.
     pub stamp: (usize, usize),
@@ -364,7 +364,7 @@ fn is_before(a: (usize, usize), b: (usize, usize)) -> bool
     a.0 < b.0 || (a.0 == b.0 && a.1 < b.1)
 }
 
-/// Row a stands lower in the bands than row b.
+/// Row a is lower in the bands than row b.
 pub fn is_lower(a: &TaskRow, b: &TaskRow) -> bool
     ensures { result ≡ tasks.row_lower a.now b.now }
 {

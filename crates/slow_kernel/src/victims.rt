@@ -104,7 +104,7 @@ pub fn counts(
     })
 }
 
-/// A task as jetsam sees it: where it stands in the bands, whether it is over a fatal limit, over a
+/// A task as jetsam sees it: where it is in the bands, whether it is over a fatal limit, over a
 /// soft limit and eligible, and eligible.
 #[derive(Clone, Copy)]
 pub struct VictimRow {
@@ -260,7 +260,7 @@ fn is_quiet(boot: &Boot, entries: &[Entry], pages: &[PageRow]) -> bool
     boot.params().critical <= free(boot, entries, pages)
 }
 
-/// A task killed for want of frames alone.
+/// A task killed for a shortage of frames alone.
 fn by_pressure(boot: &Boot, entries: &[Entry], rows: &[VictimRow]) -> Reply
     requires { rows.now ≡ victims.victim_rows boot.now (reverse entries.now) }
     ensures { result ≡ victims.pressure_reply boot.now (reverse entries.now) }
@@ -271,7 +271,7 @@ fn by_pressure(boot: &Boot, entries: &[Entry], rows: &[VictimRow]) -> Reply
     }
 }
 
-/// A task killed over its soft limit, or else for want of frames alone.
+/// A task killed over its soft limit, or else for a shortage of frames alone.
 fn by_high_water(boot: &Boot, entries: &[Entry], rows: &[VictimRow]) -> Reply
     requires { rows.now ≡ victims.victim_rows boot.now (reverse entries.now) }
     ensures { result ≡ victims.high_water_reply boot.now (reverse entries.now) }

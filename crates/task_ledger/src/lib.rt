@@ -5,8 +5,6 @@ ghost use Rattle.std.specs.Prelude.{◌≡◌, ◌<◌, false, length, map, set,
 ghost use Rattle.task_ledger.specs.Accounts.{account_of, first_account, counts_plus, counts_less, with_counts, over, IsSummed, AreWithin, AreAtMost, IsSound};
 
 pub mod account;
-#[cfg(test)]
-mod tests;
 
 use account::{Account, Over, first_account, less, plus};
 use kern_ids::calls::Limit;

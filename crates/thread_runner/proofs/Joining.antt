@@ -16,7 +16,7 @@ use Rattle.turn_lock.specs.Passes.{gathered_by, numbers_of, weight_of}
 use Rattle.turn_lock.proofs.Ends.{each_key}
 use Rattle.kernel_shared.specs.Calls.{KernelTable, KernelPass, IsIdleOf, pass_count}
 use Rattle.thread_runner.specs.declared.threads.Finished.{Finished}
-use Rattle.thread_runner.specs.Runs.{IsWhole, calls_of}
+use Rattle.kernel_model.specs.Whole.{IsWhole, calls_of}
 use Rattle.thread_runner.specs.Threads.{IsFinished, IsScripted, IsJoined}
 
 -- the last of a list is taken out

@@ -6,7 +6,7 @@ use Rattle.kernel_model.specs.Scenario.{Plan, script}
 use Rattle.turn_lock.specs.Passes.{gathered_by, numbers_of, weight_of}
 use Rattle.kernel_shared.specs.Calls.{KernelTable, KernelPass, IsIdleOf}
 use Rattle.thread_runner.specs.declared.threads.Finished.{Finished}
-use Rattle.thread_runner.specs.Runs.{calls_of}
+use Rattle.kernel_model.specs.Whole.{calls_of}
 
 -- the pass is as new but for its calls, which are its script where it was run whole
 pub record IsFinished (t : KernelTable) (s : Plan) (f : Finished) : Type 0 where

@@ -1,7 +1,9 @@
-//! A scenario run by threads that share a kernel: a thread a script.
+//! A scenario's run: by threads that share a kernel, a thread for each script, or on one thread in the order
+//! of its turns (`serial`).
 #![tactic(auto)]
 
 mod script;
+pub mod serial;
 mod threads;
 
 pub use script::run_script;

@@ -4,7 +4,7 @@ ghost use Rattle.std.specs.Prelude.{◌≡◌, ◌<◌, length, All, IfOk};
 ghost use Rattle.kernel_model.specs.Histories.{Legal};
 ghost use Rattle.turn_lock.specs.Passes.{IsNewPassOf};
 ghost use Rattle.kernel_shared.specs.Calls.{pass_count};
-ghost use Rattle.thread_runner.specs.Runs.{IsWhole};
+ghost use Rattle.kernel_model.specs.Whole.{IsWhole};
 ghost use Rattle.thread_runner.specs.Threads.{IsFinished, IsJoined};
 
 use crate::script::run_script;

@@ -88,7 +88,7 @@ impl TokenList {
         self.ahead -= n as u64;
     }
 
-    /// One more token, behind all others, that is ripe once all pages ahead have left.
+    /// One more token, after all others, that is ripe once all pages ahead have left.
     pub fn add(&mut self)
         requires { length self.old.dues < 256 }
         ensures dues { self.new.dues ≡ self.old.dues ++ self.old.ahead ∷ [] }
@@ -97,7 +97,7 @@ impl TokenList {
         self.insert(self.ahead);
     }
 
-    /// One more token, behind all whose dues aren't greater. Costs at most the tokens whose dues are.
+    /// One more token, after all whose dues aren't greater. Costs at most the tokens whose dues are.
     pub fn insert(&mut self, due: u64)
         requires room { length self.old.dues < 256 }
         requires within { due ≤ self.old.ahead }
@@ -210,7 +210,7 @@ fn take_out(ring: &mut SlotRing, slot: usize) -> usize
     after
 }
 
-/// The mark once the token at a place has gone, and `after` stands there.
+/// The mark once the token at a place has gone, and `after` is there.
 fn unmark(ripe: &mut usize, mark: &mut usize, place: usize, after: usize)
     ensures ripe_one { place < ripe.old → (ripe.new ≡ ripe.old - 1) × (mark.new ≡ mark.old) }
     ensures first_unripe { place ≡ ripe.old → (ripe.new ≡ ripe.old) × (mark.new ≡ after) }
@@ -223,7 +223,7 @@ fn unmark(ripe: &mut usize, mark: &mut usize, place: usize, after: usize)
     }
 }
 
-/// The mark once a token has come to a place behind all ripe ones.
+/// The mark once a token has come to a place after all ripe ones.
 fn mark_new(ripe: &mut usize, mark: &mut usize, place: usize, slot: usize, is_ripe: bool)
     requires { ripe.old < 2 ^ 32 }
     ensures ripe_one { is_ripe ≡ true → (ripe.new ≡ ripe.old + 1) × (mark.new ≡ mark.old) }
@@ -234,33 +234,5 @@ fn mark_new(ripe: &mut usize, mark: &mut usize, place: usize, slot: usize, is_ri
         *ripe += 1;
     } else if place == *ripe {
         *mark = slot;
-    }
-}
-
-#[cfg(test)]
-mod tests {
-    use super::*;
-    use std::test::Fail;
-
-    #[test]
-    fn tokens_ripen_in_order(rt: HostRuntime) -> Result<(), Fail> {
-        let mut list = TokenList::new(rt.alloc())?;
-        list.entered(5);
-        list.add();
-        list.entered(2);
-        list.add();
-        list.insert(5);
-        list.advance(5);
-        assert_eq!(rt; list.due_at(2), Some(2));
-        assert_eq!(rt;
-            list.counts(),
-            QueueCounts {
-                tokens: 3,
-                ripe: 2,
-                next: 2,
-                last: 2
-            }
-        );
-        Ok(())
     }
 }

@@ -12,7 +12,7 @@ use std::marker::Model;
 /// How many slots there are.
 pub const SLOTS: usize = 256;
 
-/// The place behind the last slot. It has a number too.
+/// The place after the last slot. It has a number too.
 pub const END: usize = 256;
 
 /// The slots that are in use, in their order, then the end.

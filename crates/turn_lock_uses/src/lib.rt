@@ -7,6 +7,9 @@ ghost use Rattle.std.specs.List.{AllByRecursion};
 ghost use Rattle.turn_lock.specs.Histories.{StartsWith};
 ghost use Rattle.turn_lock.specs.Passes.{IsPassOf, HoldsNothing, weight_of};
 
+#[cfg(test)]
+mod tests;
+
 use std::alloc::AllocError;
 use std::sync::Wait;
 use turn_lock::{Ordered, Pass, TwoLevel};
@@ -102,7 +105,7 @@ pub fn add<R: Wait>(
     Ok(())
 }
 
-/// The notes of two fillers that stand for all passes.
+/// The notes of two fillers that have all passes together.
 pub fn collect(jars: Jars, mut first: Filler, second: Filler) -> Notes
     requires first { IsPassOf jars first × HoldsNothing first }
     requires second { IsPassOf jars second × HoldsNothing second }
@@ -113,36 +116,4 @@ pub fn collect(jars: Jars, mut first: Filler, second: Filler) -> Notes
 {
     jars.join_pass(&mut first, second);
     jars.close(first)
-}
-
-#[cfg(test)]
-mod tests {
-    use super::*;
-    use std::alloc::Global;
-    use std::test::Fail;
-
-    fn two_jars(alloc: Global) -> Result<Vec<Jar>, AllocError>
-        ensures { IfOk result (λ v. v.items ≡ record { sum = 0 } ∷ record { sum = 0 } ∷ []) }
-    {
-        let mut jars = Vec::new(alloc);
-        jars.push(Jar { sum: 0 })?;
-        jars.push(Jar { sum: 0 })?;
-        Ok(jars)
-    }
-
-    #[test]
-    fn two_fillers_put_into_one_jar(rt: HostRuntime) -> Result<(), Fail> {
-        let notes = Notes {
-            notes: Vec::new(rt.alloc()),
-        };
-        let (jars, mut list) = Jars::new(rt.alloc(), notes, two_jars(rt.alloc())?, 2)?;
-        let (Some(mut a), Some(mut b)) = (list.take_last(), list.take_last()) else {
-            return Ok(());
-        };
-        add(&rt, &jars, &mut a, 1, 5)?;
-        add(&rt, &jars, &mut b, 1, 7)?;
-        let notes = collect(jars, a, b).notes;
-        assert_eq!(rt; notes.len(), 2);
-        Ok(())
-    }
 }

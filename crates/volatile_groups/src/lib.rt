@@ -6,9 +6,6 @@ ghost use Rattle.kern_ids.specs.declared.calls.Queue.TheVariants.{Obsolete};
 ghost use Rattle.link_list.specs.KeyLists.{place_of, without};
 ghost use Rattle.volatile_groups.specs.Grouped.{first_list, members, entered, queue_at, queue_of, AreGroups};
 
-#[cfg(test)]
-mod tests;
-
 use kern_ids::calls::Queue;
 use kern_ids::entries::NoMemory;
 use kern_ids::ids::ObjId;
@@ -18,7 +15,7 @@ use std::marker::Model;
 
 /// The objects of each queue and group, the first of a group at the head of its list.
 ///
-/// An object stands in one list at most, and one in OBSOLETE in its group 0.
+/// An object is in at most one list, and one in OBSOLETE in its group 0.
 #[derive(Drop)]
 pub struct Groups {
     lists: Lists<24>,
@@ -71,7 +68,7 @@ impl Groups {
         })
     }
 
-    /// An object that stands nowhere enters a group below 8, which is 0 in OBSOLETE: in LIFO at the head,
+    /// An object that is in no list enters a group below 8, which is 0 in OBSOLETE: in LIFO at the head,
     /// otherwise at the tail.
     pub fn enter(&mut self, o: ObjId, q: Queue, g: u32)
         requires absent { IsNone (place_of o self.old) }
@@ -86,7 +83,7 @@ impl Groups {
         }
     }
 
-    /// An object that stands somewhere is taken out; answers the queue in which it stood.
+    /// An object that is in a list is taken out; answers the queue in which it was.
     pub fn remove(&mut self, o: ObjId) -> Queue
         requires present { IsSome (place_of o self.old) }
         ensures groups { self.new ≡ map (without o) self.old }
@@ -98,7 +95,7 @@ impl Groups {
         queue_of_list(list)
     }
 
-    /// The queue in which an object stands; None where it stands nowhere.
+    /// The queue that an object is in; None where it is in none.
     pub fn queue_of(&self, o: ObjId) -> Option<Queue>
         ensures { result ≡ queue_of o self.now }
     {

@@ -133,7 +133,7 @@ moved_count boot k move q =
     rw (t, c) (if_bit (k (moved_to move)) (count_by (λ p. same_page p q) (pages_of boot)) o)
 
 -- how many pages an entry can bring to such a place
-abbrev brings : (Place → Bool) → Reply → Bool
+abbrev pub brings : (Place → Bool) → Reply → Bool
 brings k (Moved move q) = k (moved_to move)
 brings k _ = false
 
@@ -150,7 +150,7 @@ counted-le boot e before k a c =
     omega arith
 
 -- what left never falls
-deactivation-brings : (r : Reply) → bit (brings is_inactive r) ≡ bit (is_deactivation r)
+pub deactivation-brings : (r : Reply) → bit (brings is_inactive r) ≡ bit (is_deactivation r)
 deactivation-brings (Moved Deactivated p) = refl
 deactivation-brings (Moved Reactivated p) = refl
 deactivation-brings (Moved Freed p) = refl
@@ -158,7 +158,7 @@ deactivation-brings (Moved Compressed p) = refl
 deactivation-brings (Moved Requeued p) = refl
 deactivation-brings _ = refl
 
-entered_by : (b : Bool) (n : ℕ) → (if b then n + 1 else n) ≡ n + bit b
+pub entered_by : (b : Bool) (n : ℕ) → (if b then n + 1 else n) ≡ n + bit b
 entered_by true n = refl
 entered_by false n = omega arith
 

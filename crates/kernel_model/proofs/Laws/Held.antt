@@ -137,4 +137,4 @@ tokens-stand boot [] v l = start_sound boot
 tokens-stand boot (e ∷ before) v l = step_sound boot before e.who v (tokens-stand boot before v l.2) e.call e.reply l.0 l.1
 
 pub tokens-hold : (boot : System) (past : List Entry) → IsValidBoot boot → IsLegal boot past → HasTokens boot past
-tokens-hold boot past v l = let s = tokens-stand boot past v l in record { rising = s.rising; count = s.count }
+tokens-hold boot past v l = let s = tokens-stand boot past v l in record { rising = s.rising; entered = s.bound; count = s.count }

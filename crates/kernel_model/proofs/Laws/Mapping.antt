@@ -70,7 +70,7 @@ pub said_maps-none : (boot : System) (o t : ℕ) → said_maps boot [] o t ≡ f
 unfolding said_maps newest
 said_maps-none boot o t = refl
 
-some-more : (p q : ℕ → Bool) → ((t : ℕ) → p t ≡ true → q t ≡ true) → (ts : List ℕ) → list_any p ts ≡ true → list_any q ts ≡ true
+pub some-more : (p q : ℕ → Bool) → ((t : ℕ) → p t ≡ true → q t ≡ true) → (ts : List ℕ) → list_any p ts ≡ true → list_any q ts ≡ true
 some-more p q h [] s = s
 some-more p q h (t ∷ ts) s = elim (cases_bool (p t)) [
   | inl holds ↦ rw (h t holds) refl

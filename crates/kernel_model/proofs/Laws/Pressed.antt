@@ -28,7 +28,7 @@ use Rattle.kernel_model.specs.Laws.Order.{Has}
 use Rattle.kernel_model.specs.Laws.Kinds.{tells}
 use Rattle.kernel_model.specs.Laws.Legal.{IsPressed}
 use Rattle.kernel_model.proofs.Laws.Order.{find-has, filter-has, has-filter, any-has, any-none}
-use Rattle.kernel_model.proofs.Laws.Queues.{placing-bound, range-has}
+use Rattle.kernel_model.proofs.Laws.Queues.{placing-bound, range-has, has-range}
 use Rattle.kernel_model.proofs.Laws.Answers.{refused, gets, answer-cases, answer-tells, legal-tells}
 
 cases_bool : (b : Bool) → (b ≡ true) ⊎ (b ≡ false)
@@ -259,6 +259,7 @@ victim-pressed boot past t l h =
     let k = killed_cause t (least_task boot past (over_fatal boot past)) (nat_le boot.params.critical (free boot past)) (least_task boot past (over_soft boot past)) (least_task boot past (is_eligible boot past)) h in
     let there = find-has (λ x. not (list_any (λ y. band_lt boot past y x) (filter (is_eligible boot past) (tasks_of boot)))) (filter (is_eligible boot past) (tasks_of boot)) t k.3 in
     record {
+      declared = let l = has-range 0 (length boot.tasks) t (filter-has (is_eligible boot past) (tasks_of boot) t there.0).0 in omega (arith, l);
       eligible = (filter-has (is_eligible boot past) (tasks_of boot) t there.0).1;
       scarce = not_le boot.params.critical (free boot past) k.1;
       none_fatal = none_such boot past (over_fatal boot past) k.0;

@@ -16,7 +16,7 @@ use Rattle.kernel_model.specs.Events.{accepted, task_of, is_map, is_purge}
 use Rattle.kernel_model.specs.Contents.{asks_empty}
 use Rattle.kernel_model.specs.Bands.{is_tick_call}
 
--- calls that change nothing by themselves, though their reply may tell of a change
+-- calls that change nothing by themselves, though their reply may show a change
 abbrev pub is_quiet_call : Call → Bool
 is_quiet_call (GetState o) = true
 is_quiet_call Ledger = true
@@ -28,7 +28,7 @@ is_quiet_call Info = true
 is_quiet_call Purgeables = true
 is_quiet_call _ = false
 
--- replies that tell of no change: no purge, move, ageing or kill
+-- replies that show no change: no purge, move, ageing or kill
 abbrev pub is_quiet_reply : Reply → Bool
 is_quiet_reply (Purged o) = false
 is_quiet_reply (Moved move p) = false
@@ -36,7 +36,7 @@ is_quiet_reply (Aged ts) = false
 is_quiet_reply (Killed t cause) = false
 is_quiet_reply _ = true
 
--- an entry that changes nothing: any refused call but a Tick, or an accepted call that only asks, with a reply that tells of no change
+-- an entry that changes nothing: any refused call but a Tick, or an accepted call that only asks, with a reply that shows no change
 abbrev pub is_quiet : Entry → Bool
 is_quiet e = is_quiet_reply e.reply && (if accepted e then is_quiet_call e.call else not (is_tick_call e.call))
 
@@ -107,7 +107,7 @@ is_purging_call Forced = true
 is_purging_call Scan = true
 is_purging_call _ = false
 
--- a reply that tells of a change comes from a call of its kind
+-- a reply that shows a change comes from a call of its kind
 abbrev pub tells : Reply → Call → Bool
 tells (Purged o) call = is_purging_call call
 tells (Moved move p) call = is_scan_call call

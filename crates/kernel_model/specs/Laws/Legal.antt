@@ -8,7 +8,7 @@ use Rattle.kernel_model.specs.System.{System}
 use Rattle.kernel_model.specs.Newest.{newest}
 use Rattle.kernel_model.specs.Events.{is_map, is_purge, asked}
 use Rattle.kernel_model.specs.Contents.{empties}
-use Rattle.kernel_model.specs.Pages.{free, left}
+use Rattle.kernel_model.specs.Pages.{free, entered, left}
 use Rattle.kern_ids.specs.declared.calls.Call.{Call}
 use Rattle.kern_ids.specs.declared.calls.Call.TheVariants.{PurgeOne, Scan}
 use Rattle.kernel_model.specs.Bands.{band, bstamp}
@@ -23,8 +23,9 @@ use Rattle.kernel_model.specs.Laws.Frames.{bit}
 abbrev pub Precedes : System → List Entry → ℕ → ℕ → Type 0
 Precedes boot past t u = (band boot past t < band boot past u) ⊎ ((band boot past t ≡ band boot past u) × (pair_lt (bstamp boot past t) (bstamp boot past u) ≡ true))
 
--- a task that is killed for pressure is the least of the eligible ones, and nothing else was to be done
+-- a task that is killed for pressure is a declared one, the least of the eligible ones, and nothing else was to be done
 pub record IsPressed (boot : System) (past : List Entry) (t : ℕ) : Type 0 where
+  pub declared : t < length boot.tasks
   pub eligible : is_eligible boot past t ≡ true
   pub scarce : free boot past < boot.params.critical
   pub none_fatal : (u : ℕ) → u < length boot.tasks → over_fatal boot past u ≡ false
@@ -64,9 +65,10 @@ queue_objects boot past q = count_by (λ o. volatile boot past o && same_queue (
 abbrev pub all_deadlines : Deadlines → List ℕ
 all_deadlines d = d.obsolete ++ d.lifo ++ d.fifo
 
--- each list of deadlines is rising, and as long as its queue has volatile objects
+-- each list of deadlines is rising, with none above the number of pages that entered, and as long as its queue has volatile objects
 pub record HasTokens (boot : System) (past : List Entry) : Type 0 where
   pub rising : (q : Queue) → Climbs (of_queue (deadlines boot past) q)
+  pub entered : (q : Queue) (d : ℕ) → Has (of_queue (deadlines boot past) q) d → d ≤ entered past
   pub count : (q : Queue) → length (of_queue (deadlines boot past) q) ≡ queue_objects boot past q
 
 -- of two lists the second is the first without one number

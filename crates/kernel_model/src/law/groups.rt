@@ -1,4 +1,4 @@
-//! Where the volatile objects stand.
+//! Where the volatile objects are.
 
 ghost use Rattle.kern_ids.specs.StateWord.{decoded};
 ghost use Rattle.kern_ids.specs.declared.calls.Queue.{Queue};

@@ -11,7 +11,7 @@ ghost use Rattle.kernel_model.specs.Laws.Unchanged.{Unchanged};
 ghost use Rattle.kernel_model.specs.System.{System};
 ghost use Rattle.std.specs.Prelude.{IsTrue, List, Some, true, ℕ, ◌≡◌};
 
-/// A refused call, and a call that only asks and whose reply tells of no change, leave every answer as it was.
+/// A refused call, and a call that only asks and whose reply shows no change, leave every answer as it was.
 pub fn quiet_more()
     ensures unchanged { (boot : System) (e : Entry) (before : List Entry) → is_quiet e ≡ true → Unchanged boot e before }
 {}

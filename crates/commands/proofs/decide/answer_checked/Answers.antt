@@ -1,7 +1,7 @@
 use Rattle.std.proofs.Common.{◌≡◌, ap, Err}
 use Rattle.std.proofs.lemmas.Result.{IfOk-weaker}
 use Rattle.commands.specs.declared.command.Reading.TheVariants.{Judge}
-use Rattle.history_reports.specs.declared.report.Judging.TheVariants.{Check}
+use Rattle.report_tables.specs.declared.report.Judging.TheVariants.{Check}
 use Rattle.commands.specs.Answers.{due_of}
 use Rattle.commands.specs.Calls.{IsReadDue}
 use Rattle.commands.specs.Outcome.{reported, told_of_end}

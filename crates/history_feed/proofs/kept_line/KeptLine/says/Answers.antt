@@ -1,6 +1,6 @@
 use Rattle.std.proofs.Common.{◌∙◌, ℕ, List, sym, ap, arith}
 use Rattle.line_text.specs.Cut.{words_of}
-use Rattle.history_reading.specs.Histories.{line_says}
+use Rattle.history_text.specs.HistoryReading.{line_says}
 use Rattle.history_feed.specs.LongLines.{long_fault}
 use Rattle.history_feed.proofs.LongLaws.{refused}
 use Rattle.history_feed.proofs.KeptLaws.{kept-short, kept-long, says-same}

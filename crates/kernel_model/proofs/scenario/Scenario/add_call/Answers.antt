@@ -15,4 +15,4 @@ invariant_of-self-2 c =
     let added : c.add.new.self ≡ script s c.args.who ++ c.args.call ∷ [] =
     let read = rw c.get.ensures.value at c.index_mut.ensures.value in
     c.in_ok-add.ensures.ok ∙ ap (λ (xs : List Call). xs ++ c.args.call ∷ []) (read ∙ get_or_default i.scripts.items c.args.who c.index_mut.result.now [] l) in
-    rw (c.get.ensures.value, added) (ap (λ (n : ℕ). n + 1) c.self.invariant.0 ∙ sym (call_count-more s c.args.who c.args.call l), call_more s c.args.who c.args.call room fits l c.self.invariant.1)
+    rw (c.get.ensures.value, added) (ap (λ (n : ℕ). n + 1) c.self.invariant.0 ∙ sym (call_count-more s c.args.who c.args.call l), call_more s c.args.who c.args.call c.valid_call.ensures room fits l c.self.invariant.1)

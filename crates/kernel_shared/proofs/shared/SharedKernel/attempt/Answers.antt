@@ -3,9 +3,9 @@ use Rattle.std.specs.Prelude.{Result, Ok, Err, OnOk, false}
 use Rattle.std.specs.Result.{is_err}
 use Rattle.turn_lock.specs.Histories.{StartsWith}
 use Rattle.kernel_shared.specs.Calls.{entry_of}
-use Rattle.object_effects.specs.Touches.{bytes_left, NeedsAtMost, needed_number}
-use Rattle.object_effects.specs.Ranges.{IsWriteInRange, IsSeenOf, IsPreparedFor}
-use Rattle.object_effects.proofs.Seen.{sees-held, write-in_range}
+use Rattle.kernel_core.specs.Touches.{bytes_left, NeedsAtMost, needed_number}
+use Rattle.kernel_core.specs.Ranges.{IsWriteInRange, IsSeenOf, IsPreparedFor}
+use Rattle.kernel_core.proofs.Seen.{sees-held, write-in_range}
 use Rattle.kernel_shared.proofs.Passing.{put-held, starts-more}
 use Rattle.kernel_shared.proofs.shared.SharedKernel.attempt.Goals as goal
 
@@ -20,7 +20,7 @@ make-requires-clause-seen g c =
     let held : p.object ≡ Some (o, c.take_object-held.result.bytes) = search rules in
     let now : c.body-2.result.now.bytes ≡ c.take_object-held.result.bytes = search rules in
     let base : c.self.inside.boot ≡ c.args.self.now.base = search rules in
-    let s = subst (λ b. IsSeenOf b c.args.call.now c.body-2.result.now.bytes c.look-seen.result) base c.look-seen.ensures in
+    let s = subst (λ b. IsSeenOf b c.args.call.now c.body-2.result.now.bytes c.look-seen.result) base c.look-seen.ensures.seen in
     sees-held c.args.self.now.base p.seen c.args.call.now o c.body-2.result.now.bytes c.look-seen.result c.requires.named (now ∙ c.enter-turn.ensures.current o c.take_object-held.result.bytes held) s
 
 pub apply-requires-clause-range : goal.apply-requires-clause-range

@@ -4,8 +4,8 @@ use Rattle.kernel_shared.specs.Calls.{pass_count}
 use Rattle.kernel_shared.proofs.Passing.{nothing-first}
 use Rattle.kernel_shared.proofs.shared.SharedKernel.boot.Goals as goal
 
-pub new-requires-clause-bodies : goal.new-requires-clause-bodies
-new-requires-clause-bodies c = nothing-first c.in_ok-bodies.bodies.items c.in_ok-bodies.ensures.empty
+pub new-requires-2-clause-bodies : goal.new-requires-2-clause-bodies
+new-requires-2-clause-bodies c = nothing-first c.in_ok-bodies.bodies.items c.in_ok-bodies.ensures.empty
 
 pub invariant_of-result : goal.invariant_of-result
 invariant_of-result c =

@@ -1,7 +1,7 @@
 use Rattle.std.proofs.Common.{◌≡◌, ◌<◌, ℕ, None, Some, length, reverse, sym, ◌∙◌, subst, rules}
 use Rattle.kernel_core.specs.Kernels.{SeesBytes}
-use Rattle.object_effects.specs.Touches.{needed_number, named_number, NeedsAtMost}
-use Rattle.object_effects.proofs.Seen.{sees-none}
+use Rattle.kernel_core.specs.Touches.{needed_number, named_number, NeedsAtMost}
+use Rattle.kernel_core.proofs.Seen.{sees-none}
 use Rattle.kernel_shared.proofs.shared.SharedKernel.first_look.Goals as goal
 
 pub make-requires-clause-seen : goal.make-requires-clause-seen

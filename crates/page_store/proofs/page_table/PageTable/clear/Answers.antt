@@ -8,4 +8,4 @@ none_of n = replicate n None
 pub invariant_of-self : goal.invariant_of-self
 invariant_of-self c =
     let none : c.fill.new.self.items ≡ replicate 256 None = search rules in
-    kept_none c.clear.new.self c.fill.new.self.items c.clear.ensures.empty none
+    kept_none _ c.fill.new.self.items (search rules) none

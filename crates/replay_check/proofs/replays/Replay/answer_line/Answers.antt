@@ -6,7 +6,7 @@ use Rattle.line_text.specs.Cut.{line_of}
 use Rattle.history_text.specs.Entries.{entry_words, reply_words}
 use Rattle.replay_check.specs.Lines.{IsNextCall, front_text}
 use Rattle.replay_check.specs.Replays.{ReplayView, StandsFor}
-use Rattle.replay_check.specs.Verdicts.{of_thread}
+use Rattle.kernel_model.specs.Whole.{of_thread}
 use Rattle.replay_check.proofs.Begun.{call_at-fits}
 use Rattle.replay_check.proofs.LineLaws.{made, made-line, front-number, line-right, line-wrong}
 use Rattle.replay_check.proofs.Standing.{length-of_thread}

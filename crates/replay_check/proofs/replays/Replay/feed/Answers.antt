@@ -7,7 +7,8 @@ use Rattle.kernel_model.specs.Histories.{fits}
 use Rattle.kernel_model.specs.System.{System}
 use Rattle.replay_check.specs.Replays.{ReplayView, StandsFor}
 use Rattle.replay_check.specs.Same.{same_reply}
-use Rattle.replay_check.specs.Verdicts.{of_thread, is_call_at, reply_due}
+use Rattle.replay_check.specs.Verdicts.{is_call_at, reply_due}
+use Rattle.kernel_model.specs.Whole.{of_thread}
 use Rattle.replay_check.proofs.Standing.{none-from, stands-faulty, stands-wrong_call, stands-wrong_reply, stands-right, length-of_thread}
 use Rattle.replay_check.proofs.replays.Replay.feed.Goals as goal
 

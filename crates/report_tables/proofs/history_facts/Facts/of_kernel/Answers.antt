@@ -6,7 +6,7 @@ use Rattle.report_tables.proofs.history_facts.Facts.of_kernel.Goals as goal
 
 pub of_tables-requires-clause-tell : goal.of_tables-requires-clause-tell
 unfolding Tell
-of_tables-requires-clause-tell c = subst (λ (h : List Entry). Tell c.tables.result.now (reverse h)) (sym c.history.ensures) c.tables.ensures.stands
+of_tables-requires-clause-tell c = subst (λ (h : List Entry). Tell c.tables.result.now (reverse h)) (sym c.log.ensures) c.tables.ensures.stands
 
 pub of_tables-requires-clause-boot : goal.of_tables-requires-clause-boot
 of_tables-requires-clause-boot c = c.tables.ensures.boot ∙ c.requires

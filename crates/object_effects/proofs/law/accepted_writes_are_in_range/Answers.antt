@@ -1,5 +1,0 @@
-use Rattle.object_effects.proofs.Seen.{write-in_range}
-use Rattle.object_effects.proofs.law.accepted_writes_are_in_range.Goals as goal
-
-pub returns : goal.returns
-returns c = write-in_range

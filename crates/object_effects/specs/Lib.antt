@@ -1,4 +1,0 @@
-pub mod Bodies
-pub mod Touches
-pub mod Untouched
-pub mod Ranges

@@ -1,2 +1,0 @@
-pub mod OneThreads
-pub mod Runs

@@ -1,4 +1,0 @@
-pub mod Few
-pub mod Grown
-pub mod Ends
-pub mod LinesGrown

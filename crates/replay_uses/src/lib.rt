@@ -1,5 +1,0 @@
-//! Histories as texts, right and made wrong in each way, with their verdicts.
-#![tactic(auto)]
-
-#[cfg(test)]
-mod tests;
